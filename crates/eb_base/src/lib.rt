@@ -1,0 +1,15 @@
+//! The ground of every crate: names and places of entities, small lists and texts that contracts see
+//! as plain lists, and want of memory as an error.
+#![tactic(auto)]
+
+pub mod items;
+pub mod memory;
+pub mod names;
+pub mod numbers;
+pub mod texts;
+
+pub use items::Items;
+pub use memory::Memory;
+pub use names::{Entity, Name, Place, Tag};
+pub use numbers::{AuthorNo, TypeNo};
+pub use texts::Text;
