@@ -20,6 +20,9 @@ impl Model for TypeNo {
 }
 
 impl TypeNo {
+    /// The first number, 1.
+    pub const FIRST: TypeNo = TypeNo { number: 1 };
+
     /// The type of this number, if it is 1 to 128.
     pub fn new(number: u8) -> Option<Self>
         ensures valid { IsSome result ↔ ((0 < number) × (number ≤ 128)) }
@@ -58,6 +61,9 @@ impl Model for AuthorNo {
 }
 
 impl AuthorNo {
+    /// The first number, 1.
+    pub const FIRST: AuthorNo = AuthorNo { number: 1 };
+
     /// The type of this number, if it is 1 to 128.
     pub fn new(number: u8) -> Option<Self>
         ensures valid { IsSome result ↔ ((0 < number) × (number ≤ 128)) }
