@@ -1,0 +1,8 @@
+//! JSON documents: reading bytes, and looking into what was read, so that each answer is a function of the document.
+#![tactic(auto)]
+
+pub mod documents;
+pub mod members;
+
+pub use documents::{document, is_null, is_text, whole_number, whole_number_within};
+pub use members::has_keys;
