@@ -1,0 +1,8 @@
+//! Section files: the image of a section, and its one spelling as bytes.
+#![tactic(auto)]
+
+pub mod images;
+pub mod writing;
+
+pub use images::{Image, ImageRow, Link, Stored, StoredCell};
+pub use writing::encode;
