@@ -1,0 +1,15 @@
+//! A session over a folder: its opening, and the answer to each request line. What it answers and leaves is
+//! the abstract machine's (`specs/Machine.antt`).
+#![tactic(auto)]
+
+pub mod errors;
+pub mod object_table;
+pub mod plain_project;
+pub mod replies;
+pub mod requests;
+pub mod sessions;
+
+pub use errors::{OpenEnd, SessionEnd};
+pub use replies::Reply;
+pub use requests::Request;
+pub use sessions::Session;
