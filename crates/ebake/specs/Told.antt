@@ -1,0 +1,61 @@
+-- The whole run of the program: its status, its output and the files that it leaves.
+use Rattle.std.specs.Prelude.{ℕ, ◌++◌, Bool, true, false, Option, None, Some, List, [], ◌∷◌, codes}
+use Rattle.eb_outside.specs.Shelves.{Files}
+use Rattle.eb_session.specs.Machine.{State, Step, answered}
+use Rattle.eb_session.specs.Opening.{opened}
+use Rattle.eb_session.specs.Replies.{refused_text}
+use Rattle.ebake.specs.Words.{is_form, usage_text}
+use Rattle.ebake.specs.Lines.{Plan, plan}
+
+-- the replies to some lines, end to end, and the files after them
+pub record Replay : Type 0 where
+  pub output : List ℕ
+  pub files : Files
+
+abbrev pub followed_by : Step → Replay → Replay
+followed_by step rest = record { output = step.reply ++ rest.output; files = rest.files }
+
+-- the machine's steps over the lines, one after the other
+unfoldable pub replay : List (List ℕ) → State → Files → Replay
+replay [] state files = record { output = []; files = files }
+replay (line ∷ lines) state files =
+    followed_by (answered line state files) (replay lines (answered line state files).state (answered line state files).files)
+
+-- how a run ends: its status, what the sink holds, and the files
+pub record End : Type 0 where
+  pub status : ℕ
+  pub output : List ℕ
+  pub files : Files
+
+abbrev pub end_with : ℕ → List ℕ → Files → End
+end_with status output files = record { status = status; output = output; files = files }
+
+abbrev pub planned : Plan → State → Files → List ℕ → End
+planned p state files output = end_with p.status (output ++ (replay p.lines state files).output) (replay p.lines state files).files
+
+-- the lines of the input that are answered under the limits, from a state on, behind an output so far
+unfoldable pub session_end : ℕ → ℕ → State → Files → List ℕ → List ℕ → End
+session_end lines bytes state files input output = planned (plan lines bytes input) state files output
+
+abbrev pub opened_end : ℕ → ℕ → Option State → Files → List ℕ → List ℕ → End
+opened_end lines bytes None files input output = end_with 3 (output ++ refused_text) files
+opened_end lines bytes (Some state) files input output = session_end lines bytes state files input output
+
+abbrev pub run_end : Bool → ℕ → ℕ → Files → List ℕ → List ℕ → End
+run_end false lines bytes files input output = end_with 2 (output ++ usage_text) files
+run_end true lines bytes files input output = opened_end lines bytes (opened files) files input output
+
+-- The run of these words under limits on lines and bytes, where the shelf tells its files, the source its
+-- bytes and the sink what it holds.
+unfoldable pub told : ℕ → ℕ → List (List ℕ) → Option Files → Option (List ℕ) → Option (List ℕ) → Option End
+told lines bytes words (Some files) (Some input) (Some output) = Some (run_end (is_form words) lines bytes files input output)
+told lines bytes words (Some files) (Some input) None = None
+told lines bytes words (Some files) None output = None
+told lines bytes words None input output = None
+
+-- the end with this status, where the three tell what there is then
+abbrev pub ended : ℕ → Option Files → Option (List ℕ) → Option (List ℕ) → Option End
+ended status (Some files) (Some left) (Some output) = Some (end_with status output files)
+ended status (Some files) (Some left) None = None
+ended status (Some files) None output = None
+ended status None left output = None
