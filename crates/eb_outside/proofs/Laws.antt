@@ -1,8 +1,13 @@
 -- Laws that a caller's loop over a sink, a source or a shelf cites.
-use Rattle.std.proofs.Common.{◌≡◌, ℕ, ◌+◌, ◌-◌, ◌^◌, ◌≤◌, min, List, [], ◌++◌, take, drop, refl, ap, append-nil, append_assoc, arith}
+use Rattle.std.proofs.Common.{◌≡◌, ℕ, ◌≤◌, List, [], ◌++◌, take, drop, refl, ap, append-nil, append_assoc, arith, sym, ◌∙◌}
 use Rattle.std.proofs.lemmas.List.{take-append-drop}
-use Rattle.std.specs.Prelude.{Option, Some, None, option_map, Ok, Err}
+use Rattle.std.specs.Prelude.{◌≢◌, Bool, true, false, cond, Option, Some, None, option_map, Ok, Err}
+use Rattle.std.specs.Ordering.{nat_cmp, eq_by_cmp}
+use Rattle.std.specs.Cmp.Lexicographic.{slice_cmp, nat_list_cmp_total, texts_ties, same_text}
+use Rattle.std.specs.FinMap.{get, insert, get-insert, same_map, slice_cmp-IsAntisymmetric, nat_cmp-IsAntisymmetric}
+use Rattle.std.proofs.lemmas.Cmp.{nat_list_eq_equiv}
 use Rattle.eb_outside.specs.Causes.{Rose}
+use Rattle.eb_outside.specs.Shelves.{Files, with_file, KeepsOthers}
 use Rattle.eb_outside.specs.Streams.{appended, TakesKnown}
 
 -- two pieces, one after the other, are one piece
@@ -38,3 +43,48 @@ Rose-since before then now le rose = omega arith
 
 pub Rose-until : (before then now : ℕ) → Rose before then → then ≤ now → Rose before now
 Rose-until before then now rose le = omega arith
+
+same : (t : Bool) (name : List ℕ) (files : Files) (bytes : List ℕ) → t ≡ true → cond t (Some bytes) (get files name) ≡ Some bytes
+same true name files bytes e = refl
+same false name files bytes e = cc
+
+-- a file that was written has these bytes
+pub get-written : (files : Files) (name bytes : List ℕ) → get (insert files name bytes) name ≡ Some bytes
+get-written files name bytes =
+    get-insert nat_list_cmp_total files name bytes name
+    ∙ same (eq_by_cmp (slice_cmp nat_cmp) name name) name files bytes (sym (texts_ties name name) ∙ nat_list_eq_equiv.refl name)
+
+apart : (t : Bool) (other : List ℕ) (files : Files) (bytes : List ℕ) → (t ≡ true → ⊥) → cond t (Some bytes) (get files other) ≡ get files other
+apart true other files bytes ne = absurd (ne refl)
+apart false other files bytes ne = refl
+
+-- and every other has what it had
+pub get-other : (files : Files) (name bytes other : List ℕ) → other ≢ name → get (insert files name bytes) other ≡ get files other
+get-other files name bytes other ne =
+    get-insert nat_list_cmp_total files name bytes other
+    ∙ apart (eq_by_cmp (slice_cmp nat_cmp) other name) other files bytes (λ e. ne (same_text other name (sym (texts_ties other name ∙ e))))
+
+hidden : {X : Type 0} (t : Bool) (a b : X) (rest : Option X) → cond t (Some b) (cond t (Some a) rest) ≡ cond t (Some b) rest
+hidden true a b rest = refl
+hidden false a b rest = refl
+
+insert-insert : (files : Files) (name a b : List ℕ) → insert (insert files name a) name b ≡ insert files name b
+insert-insert files name a b =
+    same_map nat_list_cmp_total (slice_cmp-IsAntisymmetric nat_cmp-IsAntisymmetric) _ _ (λ q.
+    get-insert nat_list_cmp_total _ name b q
+    ∙ ap (cond (eq_by_cmp (slice_cmp nat_cmp) q name) (Some b)) (get-insert nat_list_cmp_total files name a q)
+    ∙ hidden (eq_by_cmp (slice_cmp nat_cmp) q name) a b (get files q)
+    ∙ sym (get-insert nat_list_cmp_total files name b q))
+
+-- of two writes of one name the later counts
+pub with_file-with_file : (files : Option Files) (name a b : List ℕ) → with_file (with_file files name a) name b ≡ with_file files name b
+with_file-with_file None name a b = refl
+with_file-with_file (Some files) name a b = ap Some (insert-insert files name a b)
+
+-- a write keeps all other files
+pub KeepsOthers-with_file : (files : Option Files) (name bytes : List ℕ) → KeepsOthers files (with_file files name bytes) name
+KeepsOthers-with_file None name bytes other ne = refl
+KeepsOthers-with_file (Some files) name bytes other ne = ap Some (get-other files name bytes other ne)
+
+pub KeepsOthers-trans : (old between new : Option Files) (name : List ℕ) → KeepsOthers old between name → KeepsOthers between new name → KeepsOthers old new name
+KeepsOthers-trans old between new name first then other ne = then other ne ∙ first other ne

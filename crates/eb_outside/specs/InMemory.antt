@@ -3,9 +3,7 @@ use Rattle.std.specs.Prelude.{ℕ, min, List, length, map, Vec, Option, Some, No
 use Rattle.std.specs.List.{position_or_len}
 use Rattle.std.specs.Str.{bytes_eq}
 use Rattle.std.specs.Coded.{Coded, code_by, coded×, coded_ℕ, coded_list}
-use Rattle.std.specs.Ordering.{nat_cmp}
-use Rattle.std.specs.Cmp.Lexicographic.{slice_cmp}
-use Rattle.std.specs.FinMap.{FinMap, from_entries, code}
+use Rattle.std.specs.FinMap.{from_entries, code}
 use Rattle.std.specs.declared.alloc.Global.{Global}
 use Rattle.eb_outside.specs.Shelves.{Files}
 use Rattle.eb_outside.specs.Calls.{CallCount}

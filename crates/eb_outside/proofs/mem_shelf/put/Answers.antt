@@ -1,5 +1,5 @@
 -- To replace a file in the list, or to push one, is to insert it in the map.
-use Rattle.std.proofs.Common.{◌≡◌, List, ℕ, Vec, Some, None, get_or, refl, sym, ap, ◌∙◌}
+use Rattle.std.proofs.Common.{◌≡◌, Some, None, ap, ◌∙◌}
 use Rattle.std.specs.FinMap.{insert}
 use Rattle.eb_outside.specs.InMemory.{files_of, place_of}
 use Rattle.eb_outside.proofs.FileLists.{files_of-set, files_of-push}

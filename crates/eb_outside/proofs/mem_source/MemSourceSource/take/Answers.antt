@@ -1,6 +1,5 @@
 -- What is left after a call is what stands behind the bytes that were copied.
-use Rattle.std.proofs.Common.{refl, arith, ◌≡◌, ◌++◌, ◌+◌, ◌-◌, ◌≤◌, List, [], ℕ, length, take, drop, min, sym, ap, ◌∙◌}
-use Rattle.std.proofs.Math.Seq.{take-length}
+use Rattle.std.proofs.Common.{refl, arith, ◌≡◌, ◌++◌, ◌+◌, ◌-◌, List, ℕ, length, take, drop, sym}
 use Rattle.std.proofs.lemmas.List.{take-append-drop, length-drop, drop-drop, take_all}
 use Rattle.std.proofs.lemmas.Grind.{common_steps}
 use Rattle.eb_outside.proofs.mem_source.MemSourceSource.take.Goals as goal
