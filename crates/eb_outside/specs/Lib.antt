@@ -1,3 +1,5 @@
+pub mod Calls
 pub mod Causes
+pub mod InMemory
 pub mod Shelves
 pub mod Streams

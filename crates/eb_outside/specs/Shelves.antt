@@ -1,5 +1,5 @@
 -- What the calls of a shelf do to its files. A shelf may tell nothing of them: then the meaning is None, and stays None.
-use Rattle.std.specs.Prelude.{◌≡◌, ◌≢◌, ℕ, List, Option, None, Some, option_map}
+use Rattle.std.specs.Prelude.{◌≡◌, ◌≢◌, ℕ, List, Option, option_map}
 use Rattle.std.specs.Ordering.{nat_cmp}
 use Rattle.std.specs.Cmp.Lexicographic.{slice_cmp}
 use Rattle.std.specs.FinMap.{FinMap, get, insert}
@@ -14,5 +14,4 @@ with_file files name bytes = option_map (λ f. insert f name bytes) files
 
 -- all names but this one have what they had
 abbrev pub KeepsOthers : Option Files → Option Files → List ℕ → Type 0
-KeepsOthers None new name = new ≡ None
-KeepsOthers (Some old) new name = (left : Files) × (new ≡ Some left) × ((other : List ℕ) → other ≢ name → get left other ≡ get old other)
+KeepsOthers old new name = (other : List ℕ) → other ≢ name → option_map (λ f. get f other) new ≡ option_map (λ f. get f other) old
