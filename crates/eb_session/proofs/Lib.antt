@@ -1,3 +1,4 @@
 pub mod ItemLists
 pub mod SceneFacts
 pub mod ImageFacts
+pub mod RequestFacts

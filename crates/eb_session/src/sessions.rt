@@ -1,5 +1,5 @@
 // A session: the project as it stands, and what of it is published.
-ghost use Rattle.std.specs.Prelude.{◌≡◌, ◌<◌, ◌≤◌, ◌+◌, ◌^◌, ℕ, Option, Some, None, List, length, option_map, IfOk, IfSome, IsErrOf, OnErr, string_bytes};
+ghost use Rattle.std.specs.Prelude.{◌≡◌, ◌<◌, ◌≤◌, ◌+◌, ◌^◌, ℕ, Option, Some, None, List, length, option_map, IfOk, IfSome, IsErrOf, OnOk, string_bytes};
 ghost use Rattle.eb_outside.specs.Causes.{Rose};
 ghost use Rattle.eb_outside.specs.Shelves.{Files};
 ghost use Rattle.eb_session.specs.Objects.{value_of};
@@ -83,6 +83,7 @@ impl Session {
     #[tactic(auto, unfolding(crate::specs::Opening::opened))]
     pub fn open<H: Shelf>(alloc: Global, shelf: &mut H) -> Result<Self, OpenEnd>
         ensures opened { IfSome (H.files shelf.old) (λ files. OpensAs result (opened files)) }
+        ensures first { IfOk result (λ session. session.generation ≡ 0) }
         ensures files { H.files shelf.new ≡ H.files shelf.old }
         ensures later { H.faults shelf.old ≤ H.faults shelf.new }
         ensures cause { IsErrOf result OpenEnd.Shelf → Rose (H.faults shelf.old) (H.faults shelf.new) }
@@ -117,6 +118,7 @@ impl Session {
     fn publish<H: Shelf>(&mut self, shelf: &mut H) -> Result<Reply, SessionEnd>
         requires { self.old.generation < 2 ^ 62 }
         ensures step { IfOk result (λ reply. option_map (published self.old) (H.files shelf.old) ≡ option_map (step reply.text self.new) (H.files shelf.new)) }
+        ensures count { OnOk result (self.new.generation ≤ self.old.generation + 1) }
         ensures later { H.faults shelf.old ≤ H.faults shelf.new }
         ensures cause { IsErrOf result SessionEnd.Shelf → Rose (H.faults shelf.old) (H.faults shelf.new) }
     {
@@ -138,7 +140,8 @@ impl Session {
 
     /// Gives an object's field another value.
     fn set_field(&mut self, object: u32, value: i64) -> Result<Reply, Memory>
-        ensures { IfOk result (λ reply. (files : Files) → field_set (value_of self.old.objects object) object value self.old files ≡ step reply.text self.new files) }
+        ensures step { IfOk result (λ reply. (files : Files) → field_set (value_of self.old.objects object) object value self.old files ≡ step reply.text self.new files) }
+        ensures count { OnOk result (self.new.generation ≡ self.old.generation) }
     {
         if self.objects.value(object).is_none() {
             return replies::no_object(self.alloc);
@@ -153,6 +156,7 @@ impl Session {
     pub fn line<H: Shelf>(&mut self, line: &[u8], shelf: &mut H) -> Result<Reply, SessionEnd>
         requires { self.old.generation < 2 ^ 62 }
         ensures step { IfOk result (λ reply. option_map (answered line.now self.old) (H.files shelf.old) ≡ option_map (step reply.text self.new) (H.files shelf.new)) }
+        ensures count { OnOk result (self.new.generation ≤ self.old.generation + 1) }
         ensures later { H.faults shelf.old ≤ H.faults shelf.new }
         ensures cause { IsErrOf result SessionEnd.Shelf → Rose (H.faults shelf.old) (H.faults shelf.new) }
     {

@@ -5,11 +5,7 @@ use Rattle.std.proofs.lemmas.Bool.{lt-ltb, le-ltb}
 use Rattle.std.proofs.lemmas.Bool.Decides.{nat_tests}
 use Rattle.std.proofs.lemmas.List.{take-append-le}
 use Rattle.ebake.specs.Lines.{Pieces, led_by, with_byte, pieces, unless_empty, all_lines, Plan, plan_where, plan_of, plan}
-
--- a text without a line feed
-abbrev pub IsLine : List ℕ → Type 0
-IsLine [] = Unit {0}
-IsLine (byte ∷ bytes) = ((byte == 10) ≡ false) × IsLine bytes
+use Rattle.ebake.specs.Progress.{IsLine, MayCome}
 
 pub IsLine-push : (line : List ℕ) (byte : ℕ) → IsLine line → (byte == 10) ≡ false → IsLine (line ++ byte ∷ [])
 IsLine-push [] byte h e = (e, tt)
@@ -72,11 +68,6 @@ last_line line = record { lines = unless_empty line; status = 0 }
 -- no line is answered, and the status is that of a limit
 abbrev pub at_limit : Plan
 at_limit = record { lines = []; status = 5 }
-
--- a line may come, unless none has begun
-abbrev pub MayCome : ℕ → List ℕ → Type 0
-MayCome lines [] = Unit {0}
-MayCome lines (byte ∷ bytes) = 0 < lines
 
 not_over : (lines : ℕ) (line : List ℕ) → MayCome lines line → nat_lt lines (length (unless_empty line)) ≡ false
 not_over lines [] h = grind (arith, nat_tests)

@@ -1,3 +1,5 @@
 pub mod Lines
+pub mod Progress
+pub mod Stops
 pub mod Told
 pub mod Words

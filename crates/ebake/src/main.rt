@@ -1,13 +1,9 @@
-//! stub
+//! `ebake`: bakes a folder of authoring scenes by request lines.
 #![tactic(auto)]
-ghost use Rattle.std.specs.Prelude.{◌≡◌, ℕ, ◌+◌, ◌-◌, ◌<◌, ◌≤◌, List, [], ◌++◌, ◌∷◌, length};
-ghost use Rattle.ebake.specs.Lines.{plan};
 
-pub fn empty_plan()
-    ensures { (n : ℕ) → (plan n 0 (10 ∷ [])).status ≡ 5 }
-{
-}
+mod outlet;
+mod readers;
+mod stops;
+mod words;
 
-fn main() {
-    empty_plan();
-}
+fn main() {}

@@ -1,0 +1,149 @@
+// The reader of request lines: bytes in, replies out, within the limits of a run.
+ghost use Rattle.std.specs.Prelude.{◌≡◌, ◌==◌, ◌++◌, ◌+◌, ◌-◌, ◌<◌, ◌≤◌, ◌^◌, ℕ, List, [], ◌∷◌, Bool, false, Option, None, Some, option_map, length, take, drop, OnOk, OnErr, IsErrOf, ◌⊎◌};
+ghost use Rattle.eb_outside.specs.Causes.{Rose};
+ghost use Rattle.eb_outside.specs.Shelves.{Files};
+ghost use Rattle.eb_outside.specs.Streams.{appended};
+ghost use Rattle.ebake.specs.Progress.{Answers, IsReady, line_of, whole_of, GoesOn, OutsideRose};
+
+use eb_outside::{Shelf, Sink};
+use eb_session::Session;
+use std::alloc::AllocError;
+
+use crate::outlet::give_kept;
+use crate::stops::Stop;
+
+/// How many bytes of an unfinished line are kept: one more than a request may have.
+const MOST_KEPT_BYTES: usize = 65537;
+
+/// How many bytes of replies are kept before they are given to the sink.
+const MOST_REPLY_BYTES: usize = 65536;
+
+/// A session with the bytes of a line that hasn't ended, and what is left of the limits.
+#[derive(Drop)]
+pub struct Reader {
+    /// The session, behind the last whole line.
+    pub session: Session,
+    /// The first bytes of the unfinished line, at most 65,537 of them.
+    pub line: Vec<u8>,
+    /// How many further bytes of that line have come.
+    pub skipped: u64,
+    /// How many lines may still come, the unfinished one included.
+    pub lines: u64,
+    /// How many bytes may still come, those of the unfinished line included.
+    pub bytes: u64,
+}
+
+/// Answers a line, behind the replies that are kept.
+fn answer<H: Shelf>(session: &mut Session, line: &[u8], shelf: &mut H, kept: &mut Vec<u8>) -> Result<(), Stop>
+    requires { session.old.generation < 2 ^ 62 }
+    ensures told { OnOk result (Answers line.now session.old session.new (H.files shelf.old) (H.files shelf.new) kept.old.items kept.new.items) }
+    ensures count { OnOk result (session.new.generation ≤ session.old.generation + 1) }
+    ensures err { OnErr result (kept.new.items ≡ kept.old.items) }
+    ensures later { H.faults shelf.old ≤ H.faults shelf.new }
+    ensures cause { IsErrOf result Stop.Outside → Rose (H.faults shelf.old) (H.faults shelf.new) }
+    ensures no_limit { IsErrOf result Stop.Limit → ⊥ }
+{
+    let reply = session.line(line, shelf)?;
+    kept.extend_from_slice(reply.text.bytes())?;
+    Ok(())
+}
+
+impl Reader {
+    /// How many more bytes may be taken.
+    fn room(&self) -> u64
+        requires { IsReady self.now }
+        ensures { result + length (line_of self.now) ≡ self.now.bytes }
+    {
+        self.bytes - (self.line.len() as u64 + self.skipped)
+    }
+
+    /// Takes a byte of a line, which is no line feed.
+    fn keep(&mut self, byte: u8) -> Result<(), AllocError>
+        requires ready { IsReady self.old }
+        requires some { 0 < self.old.lines }
+        requires room { length (line_of self.old) < self.old.bytes }
+        requires inside { (byte == 10) ≡ false }
+        ensures ready { OnOk result (IsReady self.new) }
+        ensures told { OnOk result ((taken : List ℕ) (files : Option Files) (left held : Option (List ℕ)) → whole_of self.old (byte ∷ taken) files left held ≡ whole_of self.new taken files left held) }
+        ensures room { OnOk result (self.new.bytes + length (line_of self.old) + 1 ≡ self.old.bytes + length (line_of self.new)) }
+    {
+        if self.line.len() < MOST_KEPT_BYTES {
+            self.line.push(byte)?;
+        } else {
+            self.skipped += 1;
+        }
+        Ok(())
+    }
+
+    /// Ends a line: answers it, and begins the next one.
+    fn end_line<H: Shelf>(&mut self, shelf: &mut H, kept: &mut Vec<u8>) -> Result<(), Stop>
+        requires ready { IsReady self.old }
+        requires some { 0 < self.old.lines }
+        requires room { length (line_of self.old) < self.old.bytes }
+        ensures ready { OnOk result (IsReady self.new) }
+        ensures told { OnOk result ((taken : List ℕ) (left base : Option (List ℕ)) →
+            whole_of self.old (10 ∷ taken) (H.files shelf.old) left (appended base kept.old.items)
+            ≡ whole_of self.new taken (H.files shelf.new) left (appended base kept.new.items)) }
+        ensures room { OnOk result (self.new.bytes + length (line_of self.old) + 1 ≡ self.old.bytes + length (line_of self.new)) }
+        ensures err { OnErr result (kept.new.items ≡ kept.old.items) }
+        ensures later { H.faults shelf.old ≤ H.faults shelf.new }
+        ensures cause { IsErrOf result Stop.Outside → Rose (H.faults shelf.old) (H.faults shelf.new) }
+        ensures no_limit { IsErrOf result Stop.Limit → ⊥ }
+    {
+        answer(&mut self.session, self.line.as_slice(), shelf, kept)?;
+        self.lines -= 1;
+        self.bytes -= self.line.len() as u64 + self.skipped + 1;
+        self.line.clear();
+        self.skipped = 0;
+        Ok(())
+    }
+
+    /// Takes one byte: of a line, or the line feed that ends one. The replies that are kept go to the sink
+    /// once there are many.
+    fn feed_byte<H: Shelf, O: Sink>(&mut self, byte: u8, shelf: &mut H, kept: &mut Vec<u8>, sink: &mut O) -> Result<(), Stop>
+        requires ready { IsReady self.old }
+        requires room { length (line_of self.old) < self.old.bytes }
+        ensures ready { OnOk result (IsReady self.new) }
+        ensures told { (taken : List ℕ) (left : Option (List ℕ)) → GoesOn result
+            (whole_of self.old (byte ∷ taken) (H.files shelf.old) left (appended (O.put sink.old) kept.old.items))
+            (whole_of self.new taken (H.files shelf.new) left (appended (O.put sink.new) kept.new.items))
+            (H.files shelf.new) left (appended (O.put sink.new) kept.new.items) }
+        ensures room { OnOk result (self.new.bytes + length (line_of self.old) + 1 ≡ self.old.bytes + length (line_of self.new)) }
+        ensures shelf { H.faults shelf.old ≤ H.faults shelf.new }
+        ensures sink { O.faults sink.old ≤ O.faults sink.new }
+        ensures cause { IsErrOf result Stop.Outside → Rose (H.faults shelf.old) (H.faults shelf.new) ⊎ Rose (O.faults sink.old) (O.faults sink.new) }
+    {
+        if self.lines == 0 {
+            return Err(Stop::Limit);
+        }
+        if byte != b'\n' {
+            self.keep(byte)?;
+            return Ok(());
+        }
+        self.end_line(shelf, kept)?;
+        if kept.len() >= MOST_REPLY_BYTES {
+            give_kept(sink, kept)?;
+        }
+        Ok(())
+    }
+
+    /// Takes the bytes of a piece, one after the other.
+    fn feed<H: Shelf, O: Sink>(&mut self, piece: &[u8], shelf: &mut H, kept: &mut Vec<u8>, sink: &mut O) -> Result<(), Stop>
+        requires ready { IsReady self.old }
+        requires room { length (line_of self.old) + length piece.now ≤ self.old.bytes }
+        ensures ready { OnOk result (IsReady self.new) }
+        ensures told { (left : Option (List ℕ)) → GoesOn result
+            (whole_of self.old piece.now (H.files shelf.old) left (appended (O.put sink.old) kept.old.items))
+            (whole_of self.new [] (H.files shelf.new) left (appended (O.put sink.new) kept.new.items))
+            (H.files shelf.new) left (appended (O.put sink.new) kept.new.items) }
+        ensures room { OnOk result (self.new.bytes + length (line_of self.old) + length piece.now ≡ self.old.bytes + length (line_of self.new)) }
+        ensures shelf { H.faults shelf.old ≤ H.faults shelf.new }
+        ensures sink { O.faults sink.old ≤ O.faults sink.new }
+        ensures cause { IsErrOf result Stop.Outside → Rose (H.faults shelf.old) (H.faults shelf.new) ⊎ Rose (O.faults sink.old) (O.faults sink.new) }
+    {
+        for byte in piece {
+            self.feed_byte(*byte, shelf, kept, sink)?;
+        }
+        Ok(())
+    }
+}
