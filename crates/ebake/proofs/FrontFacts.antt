@@ -1,5 +1,5 @@
 -- What the sink holds is a front of the output.
-use Rattle.std.proofs.Common.{◌≡◌, ℕ, ◌+◌, ◌<◌, ◌≤◌, List, [], ◌∷◌, ◌++◌, length, take, drop, refl, sym, ap, ◌∙◌, subst, arith, append_assoc}
+use Rattle.std.proofs.Common.{◌≡◌, ℕ, ◌+◌, ◌<◌, ◌≤◌, List, [], ◌∷◌, ◌++◌, length, take, drop, refl, sym, ap, ◌∙◌, subst, arith, append_assoc, append-nil}
 use Rattle.std.specs.Prelude.{Option, None, Some, Result, Ok, Err, IsErrOf}
 use Rattle.std.proofs.lemmas.List.{take-append-drop}
 use Rattle.eb_outside.specs.Shelves.{Files}
@@ -13,7 +13,7 @@ use Rattle.ebake.specs.Progress.{whole, IsFront, GoesOn}
 use Rattle.ebake.specs.Stops.{stop_of_outside}
 use Rattle.ebake.specs.declared.stops.Stop.{Stop}
 use Rattle.ebake.specs.declared.stops.Stop.TheVariants.{Outside, Memory, Limit}
-use Rattle.ebake.specs.Told.{End, replay, session_end, planned, end_with}
+use Rattle.ebake.specs.Told.{End, replay, session_end, planned, end_with, ended}
 
 -- what is held when a session goes on is a front of its output
 pub IsFront-whole : (lines bytes : ℕ) (state : State) (line : List ℕ) (files : Option Files) (left held : Option (List ℕ)) → IsFront held (whole lines bytes state line files left held)
@@ -53,3 +53,16 @@ pub IsFront-given : (base now : Option (List ℕ)) (kept rest : List ℕ) (n : �
 IsFront-given base now kept rest n a b same front given none =
     let held : appended now rest ≡ appended base (take n kept) = ap (appended now) none ∙ appended-nil now ∙ given in
     subst (λ h. IsFront h a) (sym held) (IsFront-same (appended base (take n kept)) a b same (IsFront-take base kept n b front))
+
+pub IsFront-ended : (status : ℕ) (files : Option Files) (left held : Option (List ℕ)) → IsFront held (ended status files left held)
+IsFront-ended status None left held = tt
+IsFront-ended status (Some files) None held = tt
+IsFront-ended status (Some files) (Some left) None = tt
+IsFront-ended status (Some files) (Some left) (Some held) = (held, [], refl, sym (append-nil held))
+
+-- what is held where reading goes on, or stops, is a front of the whole output
+pub IsFront-goes : (T : Type 0) (done : Result T Stop) (before after : Option End) (files : Option Files) (left held : Option (List ℕ)) → IsFront held after → GoesOn done before after files left held → IsFront held before
+IsFront-goes T (Ok x) before after files left held front goes = IsFront-same held before after goes front
+IsFront-goes T (Err Outside) before after files left held front goes = goes
+IsFront-goes T (Err Memory) before after files left held front goes = goes
+IsFront-goes T (Err Limit) before after files left held front goes = IsFront-same held before (ended 5 files left held) goes (IsFront-ended 5 files left held)

@@ -6,10 +6,10 @@ use Rattle.eb_outside.specs.Streams.{appended}
 use Rattle.eb_outside.proofs.Laws.{appended-append}
 use Rattle.eb_session.specs.Machine.{State, answered}
 use Rattle.ebake.specs.declared.readers.Reader.{Reader}
-use Rattle.ebake.specs.Progress.{IsLine, MayCome, IsReady, Answers, line_of, whole, whole_of}
+use Rattle.ebake.specs.Progress.{IsLine, MayCome, IsReady, IsSpent, Answers, line_of, whole, whole_of}
 use Rattle.ebake.proofs.LineFacts.{IsLine-push}
 use Rattle.ebake.proofs.LongLines.{answered-alike}
-use Rattle.ebake.proofs.WholeFacts.{whole-line, whole-alike, whole-full}
+use Rattle.ebake.proofs.WholeFacts.{whole-line, whole-alike, whole-full, whole-done, whole-closed}
 use Rattle.ebake.specs.Told.{ended}
 
 pub MayCome-some : (lines : ℕ) (line : List ℕ) → 0 < lines → MayCome lines line
@@ -101,3 +101,29 @@ whole_of-full reader byte taken files left held ready none room =
     ap (λ l. whole reader.lines reader.bytes reader.session (l ++ (byte ∷ taken)) files left held) fresh
     ∙ ap (λ n. whole n reader.bytes reader.session (byte ∷ taken) files left held) none
     ∙ whole-full reader.bytes reader.session byte taken files left held (omega arith)
+
+-- nothing more comes and no line has begun
+pub whole_of-done : (reader : Reader) (files : Option Files) (left held : Option (List ℕ)) → IsReady reader → reader.line.items ≡ [] → IsSpent left → whole_of reader [] files left held ≡ ended 0 files left held
+whole_of-done reader files left held ready empty spent =
+    let unskipped : reader.skipped ≡ 0 = none_skipped reader.line.items reader.skipped ready.skipped empty in
+    let fresh : line_of reader ++ [] ≡ [] = append-nil (line_of reader) ∙ ap (λ l. l ++ replicate reader.skipped 0) empty ∙ ap (λ n. replicate n 0) unskipped in
+    whole-done reader.lines reader.bytes reader.session (line_of reader ++ []) files left held fresh spent
+
+may_some : (lines : ℕ) (line : List ℕ) → MayCome lines line → 0 < length line → 0 < lines
+may_some lines [] may some = absurd (omega arith)
+may_some lines (b ∷ bs) may some = may
+
+-- nothing more comes, and the unfinished line is answered
+pub whole_of-closed : (reader : Reader) (new : State) (before after : Option Files) (left base : Option (List ℕ)) (kept now : List ℕ) → IsReady reader → 0 < length reader.line.items → IsSpent left
+    → Answers reader.line.items reader.session new before after kept now → whole_of reader [] before left (appended base kept) ≡ ended 0 after left (appended base now)
+whole_of-closed reader new before after left base kept now ready some spent answers =
+    let all = line_of reader in
+    let long : length all ≡ length reader.line.items + reader.skipped = length-line_of reader in
+    ap (λ l. whole reader.lines reader.bytes reader.session l before left (appended base kept)) (append-nil all)
+    ∙ whole-closed reader.lines reader.bytes reader.session new all answers.reply before after left (appended base kept) (IsLine-line_of reader ready) (omega (arith, ready.room)) (may_some reader.lines reader.line.items ready.may some) (omega arith) spent
+        (answered-zeros reader.line.items reader.skipped reader.session before ready.skipped ∙ answers.told)
+    ∙ ap (ended 0 after left) (appended-append base kept answers.reply ∙ ap (appended base) (sym answers.text))
+
+pub empty_of_length : (bytes : List ℕ) → length bytes ≡ 0 → bytes ≡ []
+empty_of_length [] none = refl
+empty_of_length (b ∷ bs) none = absurd (omega arith)

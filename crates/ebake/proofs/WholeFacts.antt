@@ -5,7 +5,7 @@ use Rattle.eb_outside.specs.Shelves.{Files}
 use Rattle.eb_outside.specs.Streams.{appended}
 use Rattle.eb_session.specs.Machine.{State, Step, step, answered}
 use Rattle.ebake.specs.Lines.{unless_empty, Plan, plan}
-use Rattle.ebake.specs.Progress.{IsLine, MayCome, whole}
+use Rattle.ebake.specs.Progress.{IsLine, MayCome, IsSpent, whole}
 use Rattle.ebake.specs.Told.{Replay, followed_by, replay, End, end_with, planned, session_end, ended}
 use Rattle.ebake.proofs.LineFacts.{IsLine-push, in_front, plan-line, last_line, plan-last, at_limit, plan-out, plan-full}
 use Rattle.ebake.proofs.LongLines.{session_end-alike, answered-alike}
@@ -80,3 +80,52 @@ whole-out lines bytes state line byte taken (Some files) (Some left) (Some held)
     ap Some (ap (λ input. planned (plan lines bytes input) state files held) (append_assoc line (byte ∷ taken) left)
     ∙ ap (λ p. planned p state files held) (plan-out lines bytes line byte (taken ++ left) h full may)
     ∙ planned-limit state files held)
+
+-- the end where these are the last lines
+abbrev last_end : List (List ℕ) → State → Option Files → Option (List ℕ) → Option (List ℕ) → Option End
+last_end lines state (Some files) (Some left) (Some held) = Some (planned (record { lines = lines; status = 0 }) state files held)
+last_end lines state (Some files) (Some left) None = None
+last_end lines state (Some files) None held = None
+last_end lines state None left held = None
+
+whole-spent : (lines bytes : ℕ) (state : State) (line : List ℕ) (files : Option Files) (left held : Option (List ℕ)) → IsLine line → length line ≤ bytes → MayCome lines line → IsSpent left
+    → whole lines bytes state line files left held ≡ last_end (unless_empty line) state files left held
+unfolding session_end
+whole-spent lines bytes state line None left held h room may spent = refl
+whole-spent lines bytes state line (Some files) None held h room may spent = refl
+whole-spent lines bytes state line (Some files) (Some left) None h room may spent = refl
+whole-spent lines bytes state line (Some files) (Some left) (Some held) h room may spent =
+    ap Some (ap (λ l. planned (plan lines bytes (line ++ l)) state files held) spent
+    ∙ ap (λ l. planned (plan lines bytes l) state files held) (append-nil line)
+    ∙ ap (λ p. planned p state files held) (plan-last lines bytes line h room may))
+
+no_last : (state : State) (files : Option Files) (left held : Option (List ℕ)) → last_end [] state files left held ≡ ended 0 files left held
+unfolding replay
+no_last state None left held = refl
+no_last state (Some files) None held = refl
+no_last state (Some files) (Some left) None = refl
+no_last state (Some files) (Some left) (Some held) = ap Some (ap (λ o. end_with 0 o files) (append-nil held))
+
+one_last : (line reply : List ℕ) (old new : State) (before after : Option Files) (left held : Option (List ℕ)) → option_map (answered line old) before ≡ option_map (step reply new) after
+    → last_end (line ∷ []) old before left held ≡ ended 0 after left (appended held reply)
+unfolding replay
+one_last line reply old new None None left held told = refl
+one_last line reply old new None (Some after) left held told = cc
+one_last line reply old new (Some before) None left held told = cc
+one_last line reply old new (Some before) (Some after) None held told = refl
+one_last line reply old new (Some before) (Some after) (Some left) None told = refl
+one_last line reply old new (Some before) (Some after) (Some left) (Some held) told =
+    ap Some (ap (λ (s : Step). end_with 0 (held ++ (s.reply ++ [])) s.files) (same_Some _ _ told) ∙ ap (λ r. end_with 0 (held ++ r) after) (append-nil reply))
+
+-- where nothing more comes and no line has begun, the run is done
+pub whole-done : (lines bytes : ℕ) (state : State) (line : List ℕ) (files : Option Files) (left held : Option (List ℕ)) → line ≡ [] → IsSpent left → whole lines bytes state line files left held ≡ ended 0 files left held
+whole-done lines bytes state line files left held empty spent =
+    ap (λ l. whole lines bytes state l files left held) empty ∙ whole-spent lines bytes state [] files left held tt (omega arith) tt spent ∙ no_last state files left held
+
+-- where nothing more comes, an unfinished line is answered as the last one
+pub whole-closed : (lines bytes : ℕ) (old new : State) (line reply : List ℕ) (before after : Option Files) (left held : Option (List ℕ)) → IsLine line → length line ≤ bytes → 0 < lines → 0 < length line → IsSpent left
+    → option_map (answered line old) before ≡ option_map (step reply new) after
+    → whole lines bytes old line before left held ≡ ended 0 after left (appended held reply)
+whole-closed lines bytes old new [] reply before after left held h room may some spent told = absurd (omega arith)
+whole-closed lines bytes old new (b ∷ bs) reply before after left held h room may some spent told =
+    whole-spent lines bytes old (b ∷ bs) before left held h room may spent ∙ one_last (b ∷ bs) reply old new before after left held told

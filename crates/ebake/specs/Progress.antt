@@ -2,7 +2,6 @@
 -- bytes of a line that hasn't ended.
 use Rattle.std.specs.Prelude.{◌≡◌, ℕ, ◌+◌, ◌<◌, ◌≤◌, ◌^◌, ◌==◌, ◌++◌, Bool, false, Option, None, Some, option_map, Result, Ok, Err, List, [], ◌∷◌, length, replicate, ⊤}
 use Rattle.eb_outside.specs.Shelves.{Files}
-use Rattle.eb_outside.specs.Causes.{Rose}
 use Rattle.eb_session.specs.Machine.{State, step, answered}
 use Rattle.ebake.specs.Told.{End, session_end, ended}
 use Rattle.ebake.specs.declared.stops.Stop.{Stop}
@@ -58,15 +57,13 @@ GoesOn (Err Limit) before after files left held = before ≡ ended 5 files left 
 GoesOn (Err Outside) before after files left held = IsFront held before
 GoesOn (Err Memory) before after files left held = IsFront held before
 
--- a fault of the outside comes only where a count of faults rose
-abbrev pub OutsideRose : {T : Type 0} → Result T Stop → Type 0 → Type 0
-OutsideRose (Ok x) rose = ⊤
-OutsideRose (Err Outside) rose = rose
-OutsideRose (Err Memory) rose = ⊤
-OutsideRose (Err Limit) rose = ⊤
-
 -- A line was answered: its reply stands behind the ones that were kept, and state and files are as the machine says.
 pub record Answers (line : List ℕ) (old new : State) (before after : Option Files) (kept now : List ℕ) : Type 0 where
   pub reply : List ℕ
   pub text : now ≡ kept ++ reply
   pub told : option_map (answered line old) before ≡ option_map (step reply new) after
+
+-- nothing more comes, as far as the source tells
+abbrev pub IsSpent : Option (List ℕ) → Type 0
+IsSpent None = ⊤
+IsSpent (Some left) = left ≡ []

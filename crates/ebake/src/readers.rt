@@ -1,9 +1,10 @@
 // The reader of request lines: bytes in, replies out, within the limits of a run.
-ghost use Rattle.std.specs.Prelude.{◌≡◌, ◌==◌, ◌++◌, ◌+◌, ◌-◌, ◌<◌, ◌≤◌, ◌^◌, ℕ, List, [], ◌∷◌, Bool, false, Option, None, Some, option_map, length, take, drop, OnOk, OnErr, IsErrOf, ◌⊎◌};
+ghost use Rattle.std.specs.Prelude.{◌≡◌, ◌==◌, ◌++◌, ◌+◌, ◌-◌, ◌<◌, ◌≤◌, ◌^◌, ℕ, List, [], ◌∷◌, Bool, false, Option, None, Some, option_map, length, take, drop, OnOk, OnErr, IsErrOf, IsOk, ◌⊎◌};
 ghost use Rattle.eb_outside.specs.Causes.{Rose};
 ghost use Rattle.eb_outside.specs.Shelves.{Files};
 ghost use Rattle.eb_outside.specs.Streams.{appended};
-ghost use Rattle.ebake.specs.Progress.{Answers, IsReady, line_of, whole_of, GoesOn, OutsideRose};
+ghost use Rattle.ebake.specs.Progress.{Answers, IsReady, line_of, whole_of, GoesOn, IsFront, IsSpent};
+ghost use Rattle.ebake.specs.Told.{End, ended};
 
 use eb_outside::{Shelf, Sink};
 use eb_session::Session;
@@ -146,4 +147,72 @@ impl Reader {
         }
         Ok(())
     }
+
+    /// Answers the last line, which no line feed ends, unless it is empty.
+    fn finish<H: Shelf>(&mut self, shelf: &mut H, kept: &mut Vec<u8>) -> Result<(), Stop>
+        requires ready { IsReady self.old }
+        ensures told { (left base : Option (List ℕ)) → IsSpent left → GoesOn result
+            (whole_of self.old [] (H.files shelf.old) left (appended base kept.old.items))
+            (ended 0 (H.files shelf.new) left (appended base kept.new.items))
+            (H.files shelf.new) left (appended base kept.new.items) }
+        ensures later { H.faults shelf.old ≤ H.faults shelf.new }
+        ensures cause { IsErrOf result Stop.Outside → Rose (H.faults shelf.old) (H.faults shelf.new) }
+    {
+        if self.line.is_empty() {
+            return Ok(());
+        }
+        answer(&mut self.session, self.line.as_slice(), shelf, kept)?;
+        Ok(())
+    }
+
+    /// Takes a piece of the input, and gives the sink the replies to all lines that end in it.
+    fn feed_piece<H: Shelf, O: Sink>(&mut self, piece: &[u8], shelf: &mut H, kept: &mut Vec<u8>, sink: &mut O) -> Result<(), Stop>
+        requires ready { IsReady self.old }
+        requires room { length (line_of self.old) + length piece.now ≤ self.old.bytes }
+        requires none { kept.old.items ≡ [] }
+        ensures ready { OnOk result (IsReady self.new) }
+        ensures told { (left : Option (List ℕ)) → GoesOn result
+            (whole_of self.old piece.now (H.files shelf.old) left (O.put sink.old))
+            (whole_of self.new [] (H.files shelf.new) left (O.put sink.new))
+            (H.files shelf.new) left (O.put sink.new) }
+        ensures room { OnOk result (self.new.bytes + length (line_of self.old) + length piece.now ≡ self.old.bytes + length (line_of self.new)) }
+        ensures none { kept.new.items ≡ [] }
+        ensures shelf { H.faults shelf.old ≤ H.faults shelf.new }
+        ensures sink { O.faults sink.old ≤ O.faults sink.new }
+        ensures cause { IsErrOf result Stop.Outside → Rose (H.faults shelf.old) (H.faults shelf.new) ⊎ Rose (O.faults sink.old) (O.faults sink.new) }
+    {
+        let fed = self.feed(piece, shelf, kept, sink);
+        give_then(sink, kept, fed)
+    }
+
+    /// Answers the last line, and gives the sink its reply.
+    fn close<H: Shelf, O: Sink>(&mut self, shelf: &mut H, kept: &mut Vec<u8>, sink: &mut O) -> Result<(), Stop>
+        requires ready { IsReady self.old }
+        requires none { kept.old.items ≡ [] }
+        ensures told { (left : Option (List ℕ)) → IsSpent left → GoesOn result
+            (whole_of self.old [] (H.files shelf.old) left (O.put sink.old))
+            (ended 0 (H.files shelf.new) left (O.put sink.new))
+            (H.files shelf.new) left (O.put sink.new) }
+        ensures shelf { H.faults shelf.old ≤ H.faults shelf.new }
+        ensures sink { O.faults sink.old ≤ O.faults sink.new }
+        ensures cause { IsErrOf result Stop.Outside → Rose (H.faults shelf.old) (H.faults shelf.new) ⊎ Rose (O.faults sink.old) (O.faults sink.new) }
+    {
+        let finished = self.finish(shelf, kept);
+        give_then(sink, kept, finished)
+    }
+}
+
+/// Gives the kept replies to the sink, also where what was done before has stopped the run.
+fn give_then<O: Sink>(sink: &mut O, kept: &mut Vec<u8>, done: Result<(), Stop>) -> Result<(), Stop>
+    ensures told { (before : Option End) (after : Option (List ℕ) → Option End) (files : Option Files) (left : Option (List ℕ)) →
+        ((held : Option (List ℕ)) → IsFront held (after held)) →
+        GoesOn done before (after (appended (O.put sink.old) kept.old.items)) files left (appended (O.put sink.old) kept.old.items) →
+        GoesOn result before (after (O.put sink.new)) files left (O.put sink.new) }
+    ensures ok { OnOk result (IsOk done) }
+    ensures none { kept.new.items ≡ [] }
+    ensures sink { O.faults sink.old ≤ O.faults sink.new }
+    ensures cause { IsErrOf result Stop.Outside → IsErrOf done Stop.Outside ⊎ Rose (O.faults sink.old) (O.faults sink.new) }
+{
+    give_kept(sink, kept)?;
+    done
 }
