@@ -51,7 +51,7 @@ fn answer<H: Shelf>(session: &mut Session, line: &[u8], shelf: &mut H, kept: &mu
 
 impl Reader {
     /// How many more bytes may be taken.
-    fn room(&self) -> u64
+    pub fn room(&self) -> u64
         requires { IsReady self.now }
         ensures { result + length (line_of self.now) ≡ self.now.bytes }
     {
@@ -166,7 +166,7 @@ impl Reader {
     }
 
     /// Takes a piece of the input, and gives the sink the replies to all lines that end in it.
-    fn feed_piece<H: Shelf, O: Sink>(&mut self, piece: &[u8], shelf: &mut H, kept: &mut Vec<u8>, sink: &mut O) -> Result<(), Stop>
+    pub fn feed_piece<H: Shelf, O: Sink>(&mut self, piece: &[u8], shelf: &mut H, kept: &mut Vec<u8>, sink: &mut O) -> Result<(), Stop>
         requires ready { IsReady self.old }
         requires room { length (line_of self.old) + length piece.now ≤ self.old.bytes }
         requires none { kept.old.items ≡ [] }
@@ -186,7 +186,7 @@ impl Reader {
     }
 
     /// Answers the last line, and gives the sink its reply.
-    fn close<H: Shelf, O: Sink>(&mut self, shelf: &mut H, kept: &mut Vec<u8>, sink: &mut O) -> Result<(), Stop>
+    pub fn close<H: Shelf, O: Sink>(&mut self, shelf: &mut H, kept: &mut Vec<u8>, sink: &mut O) -> Result<(), Stop>
         requires ready { IsReady self.old }
         requires none { kept.old.items ≡ [] }
         ensures told { (left : Option (List ℕ)) → IsSpent left → GoesOn result
