@@ -27,17 +27,16 @@ pub fn serve<H: Shelf, I: Source, O: Sink>(alloc: Global, reader: &mut Reader, s
 {
     let mut buffer = vec![in alloc; 0; PIECE_BYTES]?;
     let mut kept = Vec::new(alloc);
-    while reader.room() > 0 {
-        let most = reader.room().min(PIECE_BYTES as u64) as usize;
+    'pieces: loop {
+        let room = reader.room();
+        let most = room.clamp(1, PIECE_BYTES as u64) as usize;
         let count = source.take(&mut buffer[..most])?;
         if count == 0 {
             return reader.close(shelf, &mut kept, sink);
         }
+        if room == 0 {
+            return Err(Stop::Limit);
+        }
         reader.feed_piece(&buffer[..count], shelf, &mut kept, sink)?;
     }
-    let more = source.take(&mut buffer[..1])?;
-    if more > 0 {
-        return Err(Stop::Limit);
-    }
-    reader.close(shelf, &mut kept, sink)
 }

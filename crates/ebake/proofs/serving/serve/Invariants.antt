@@ -1,10 +1,10 @@
-use Rattle.std.proofs.Common.{◌≡◌, ◌≤◌, ◌-◌, [], length}
+use Rattle.std.proofs.Common.{◌≡◌, ◌≤◌, ◌+◌, ◌-◌, [], length}
 use Rattle.ebake.specs.Progress.{IsReady, line_of, whole_of}
 use Rattle.ebake.proofs.serving.serve.Given as goal
 
 -- the run goes on to the same end, and no reply is kept back
-abbrev pub invariant-loop-reader : goal.invariant-loop-reader
-invariant-loop-reader g l = record {
+abbrev pub invariant-pieces : goal.invariant-pieces
+invariant-pieces g l = record {
   ready : IsReady l.reader;
   size : length l.buffer.items ≡ 4096;
   none : l.kept.items ≡ [];
@@ -15,5 +15,5 @@ invariant-loop-reader g l = record {
   sink : g.O.Sink.faults l.fn.sink ≤ g.O.Sink.faults l.sink;
 }
 
-abbrev pub decreases-loop-reader : goal.decreases-loop-reader
-decreases-loop-reader g l = l.reader.bytes - length (line_of l.reader)
+abbrev pub decreases-pieces : goal.decreases-pieces
+decreases-pieces g l = l.reader.bytes - length (line_of l.reader)
