@@ -1,5 +1,5 @@
 -- The bytes of a section file, as a relation between whole texts and images, and as a function.
-use Rattle.std.specs.Prelude.{◌≡◌, ℕ, ◌+◌, Option, Some, None, List, [], ◌∷◌, ◌++◌, length, map, filter, find, flat_map, slice_get, nat_eq, ◌==◌, codes, option_map, option_and_then, unwrap_or}
+use Rattle.std.specs.Prelude.{◌≡◌, ℕ, ◌+◌, Option, List, [], ◌∷◌, ◌++◌, length, map, filter, find, flat_map, slice_get, nat_eq, ◌==◌, codes, option_map, option_and_then, unwrap_or}
 use Rattle.std.specs.Int.{w8, w16, w32, w64, cast_unsigned, to_le_bytes}
 use Rattle.std.specs.List.{enumerate_from, position_or_len}
 use Rattle.std.specs.Ordering.{nat_cmp, eq_by_cmp}

@@ -2,6 +2,7 @@
 #![tactic(auto)]
 
 pub mod images;
+pub mod laws;
 pub mod writing;
 
 pub use images::{Image, ImageRow, Link, Stored, StoredCell};
