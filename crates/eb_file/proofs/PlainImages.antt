@@ -1,8 +1,8 @@
 -- The spelling of an image whose rows have one number each.
 use Rattle.std.proofs.Common.{◌≡◌, ℕ, ℤ, ◌<◌, cond, Option, Some, None, List, [], ◌∷◌, ◌++◌, length, map, get_or, refl, sym, ap, subst, ◌∙◌, All, arith}
-use Rattle.std.specs.Prelude.{◌==◌, IsSomeAnd, find, flat_map, nat_eq, option_and_then, option_map, slice_get, unwrap_or}
+use Rattle.std.specs.Prelude.{◌==◌, FitsSigned, IsSomeAnd, find, flat_map, nat_eq, option_and_then, option_map, slice_get, unwrap_or}
 use Rattle.std.specs.Cmp.Lexicographic.{pointwise}
-use Rattle.std.specs.Int.{w32, to_le_bytes}
+use Rattle.std.specs.Int.{w32, w64, to_le_bytes}
 use Rattle.std.specs.List.{AllZip, enumerate_from}
 use Rattle.std.proofs.lemmas.List.{append-nil}
 use Rattle.std.proofs.lemmas.List.Elements.{All-head, All-tail}
@@ -27,10 +27,12 @@ use Rattle.eb_file.specs.Spelling.{Numbers, spelling, text_of, header, archetype
 
 -- the values of one field, which is a number of 64 bits
 one_number : (image : Image) (fields : List Field) (values : List Stored) → map (λ field. field.kind) fields ≡ I64 ∷ [] → AllZip (λ field value. ValueFits image field.kind value) fields values
-    → (n : ℤ) × (values ≡ stored.Num n ∷ [])
+    → (n : ℤ) × (values ≡ stored.Num n ∷ []) × FitsSigned w64 n
 one_number image [] values kinds fit = absurd (cc)
 one_number image (f ∷ []) [] kinds fit = absurd fit
-one_number image (f ∷ []) (stored.Num n ∷ []) kinds fit = (n, refl)
+one_number image (f ∷ []) (stored.Num n ∷ []) kinds fit =
+    let kind : f.kind ≡ I64 = cc in
+    (n, refl, subst (λ k. ValueFits image k (stored.Num n)) kind fit.0)
 one_number image (f ∷ []) (stored.Link l ∷ []) kinds fit =
     let kind : f.kind ≡ I64 = cc in
     absurd (subst (λ k. ValueFits image k (stored.Link l)) kind fit.0)
@@ -43,7 +45,7 @@ both_of (Some c) p q = (c, p, q)
 
 -- the cells of a row that has type 1 alone
 one_cell : (types : Types) (image : Image) (cells : List StoredCell) → IsSomeAnd (component_of types 1) (λ c. map (λ field. field.kind) c.fields ≡ I64 ∷ []) → All (CellFits types image) cells → map (λ cell. cell.kind) cells ≡ 1 ∷ []
-    → (n : ℤ) × (cells ≡ number_cells n)
+    → (n : ℤ) × (cells ≡ number_cells n) × FitsSigned w64 n
 one_cell types image [] field fit kinds = absurd (cc)
 one_cell types image (cell ∷ []) field fit kinds =
     let kind : cell.kind ≡ 1 = cc in
@@ -51,17 +53,17 @@ one_cell types image (cell ∷ []) field fit kinds =
     let there = subst (λ k. IsSomeAnd (component_of types k) (λ c. (c.mode ≡ modes.Stored) × AllZip (λ field value. ValueFits image field.kind value) c.fields cell.values)) kind here in
     let both = both_of (component_of types 1) there field in
     let number = one_number image both.0.fields cell.values both.2 both.1.1 in
-    (number.0, λ i. record { kind = kind i; values = number.1 i } ∷ [])
+    (number.0, λ i. record { kind = kind i; values = number.1 i } ∷ [], number.2)
 one_cell types image (cell ∷ other ∷ cells) field fit kinds = absurd (cc)
 
 pub each_holds_number : (types : Types) (image : Image) → IsValid types image → IsPlain types image → All HoldsNumber image.rows
 each_holds_number types image valid plain k d lt =
     let cell = one_cell types image (get_or image.rows k d).cells plain.field (valid.rows k d lt).cells (plain.rows k d lt) in
-    record { number = cell.0; cells = cell.1 }
+    record { number = cell.0; cells = cell.1; range = cell.2 }
 
 -- ---- their one archetype
 
-no_zeros : (rows : List ImageRow) → All HoldsNumber rows → zero_names rows ≡ []
+pub no_zeros : (rows : List ImageRow) → All HoldsNumber rows → zero_names rows ≡ []
 no_zeros [] all = refl
 no_zeros (row ∷ rows) all =
     let here : row.cells ≡ number_cells (All-head HoldsNumber row rows all).number = (All-head HoldsNumber row rows all).cells in

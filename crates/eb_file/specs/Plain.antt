@@ -1,6 +1,6 @@
 -- Rows that have one number each, of type 1.
-use Rattle.std.specs.Prelude.{◌≡◌, ℕ, ℤ, List, [], ◌∷◌, ◌++◌, length, flat_map, option_map, unwrap_or}
-use Rattle.std.specs.Int.{w32, to_le_bytes}
+use Rattle.std.specs.Prelude.{◌≡◌, ℕ, ℤ, FitsSigned, List, [], ◌∷◌, ◌++◌, length, flat_map, option_map, unwrap_or}
+use Rattle.std.specs.Int.{w32, w64, to_le_bytes}
 use Rattle.eb_base.specs.declared.names.Place.{Place}
 use Rattle.eb_schema.specs.declared.kinds.Kind.TheVariants.{I64}
 use Rattle.eb_file.specs.declared.images.Stored.TheVariants as stored
@@ -20,6 +20,7 @@ number_row scene object number = record { name = record { play = 0; scene = scen
 pub record HoldsNumber (row : ImageRow) : Type 0 where
   pub number : ℤ
   pub cells : row.cells ≡ number_cells number
+  pub range : FitsSigned w64 number
 
 -- the number of such a row as bytes
 abbrev pub number_bytes : ImageRow → List ℕ
