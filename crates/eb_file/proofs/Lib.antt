@@ -1,3 +1,4 @@
+pub mod Apart
 pub mod Members
 pub mod NumberRows
 pub mod OneSpelling

@@ -86,7 +86,7 @@ all_rows (row ∷ rows) all =
     ∙ ap (λ (others : List ImageRow). row ∷ others) (all_rows rows (All-tail HoldsNumber row rows all))
 
 -- what cells have in the first column of type 1
-abbrev cells_bytes : Numbers → Kind → List StoredCell → List ℕ
+abbrev pub cells_bytes : Numbers → Kind → List StoredCell → List ℕ
 cells_bytes numbers kind cells = unwrap_or (option_map (value_bytes numbers kind) (option_and_then (λ cell. slice_get cell.values 0) (find (λ cell. cell.kind == 1) cells))) []
 
 row_bytes : (numbers : Numbers) (kind : Kind) (row : ImageRow) → kind ≡ I64 → HoldsNumber row → cells_bytes numbers kind row.cells ≡ number_bytes row
