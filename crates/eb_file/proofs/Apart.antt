@@ -105,8 +105,9 @@ archetypes_told scene a b rest same p q e =
     let parted : (rows : List ImageRow) (back : List ℕ) → number_archetype rows ++ back ≡ front rows ++ (names rows ++ (numbers rows ++ back)) =
     λ rows back. append_assoc (front rows ++ flat_map name_bytes (names_of rows)) (numbers rows) back ∙ append_assoc (front rows) (flat_map name_bytes (names_of rows)) _ ∙ ap (λ (those : List ℕ). front rows ++ (those ++ (numbers rows ++ back))) (flat_map-map name_bytes (λ row. row.name) rows) in
     let whole = sym (parted a rest) ∙ e ∙ sym (append-nil (number_archetype b)) ∙ parted b [] in
-    let first = same_front (front a) (front b) _ _ refl whole in
-    let second = same_pieces (λ row. name_bytes row.name) (λ row. row.name) 8 (λ row. IsName scene row.name) (λ x is. refl) (λ x y is js. name_told scene x.name y.name is js) a b _ _ same p.names q.names first.1 in
+    let six : length (front a) ≡ length (front b) = refl {a = 6} in
+    let first = same_front (front a) (front b) _ _ six whole in
+    let second = same_pieces (λ row. name_bytes row.name) (λ row. row.name) 8 (λ row. IsName scene row.name) (λ x is. refl {a = 8}) (λ x y is js. name_told scene x.name y.name is js) a b _ _ same p.names q.names first.1 in
     let third = same_pieces number_bytes (λ row. row.cells) 8 HoldsNumber (λ x h. ap length (number_is x h)) number_told a b rest [] same p.numbers q.numbers second.1 in
     (rows_told a b second.0 third.0, third.1)
 

@@ -7,3 +7,6 @@ pub mod writing;
 
 pub use images::{Image, ImageRow, Link, Stored, StoredCell};
 pub use writing::encode;
+
+#[cfg(test)]
+mod tests;

@@ -1,6 +1,5 @@
 // The spelling of an image as the bytes of a section file.
-ghost use Rattle.std.specs.Prelude.{◌≡◌, ℕ, ◌≤◌, ◌<◌, ◌^◌, ◌++◌, length, All, flat_map, IfOk, OnOk};
-ghost use Rattle.std.specs.Int.{w64, cast_unsigned, to_le_bytes};
+ghost use Rattle.std.specs.Prelude.{◌≡◌, ◌≤◌, ◌++◌, length, All, flat_map, IfOk, OnOk};
 ghost use Rattle.eb_file.specs.Images.{IsValid, IsPlain, names_of};
 ghost use Rattle.eb_file.specs.Plain.{HoldsNumber, number_archetype, number_bytes, number_cells, number_text};
 ghost use Rattle.eb_file.specs.Spelling.{Spells, header, name_bytes, spelling};
@@ -17,7 +16,9 @@ const ARCHETYPE_BYTES: usize = 6;
 /// The bytes of a row's name and number.
 const ROW_BYTES: usize = 16;
 
-/// The one spelling of the image. Asks for memory once.
+/// The bytes of the section file that holds the image: its one spelling. The only error is want of
+/// memory, which is asked for once. Takes time and memory in proportion to the rows, 16 bytes each.
+/// The bytes are described in `docs/section-file.md`.
 pub fn encode(alloc: Global, schema: &Schema, image: &Image) -> Result<Vec<u8>, Memory>
     requires valid { IsValid schema.now image.now }
     requires plain { IsPlain schema.now image.now }
@@ -33,6 +34,7 @@ pub fn encode(alloc: Global, schema: &Schema, image: &Image) -> Result<Vec<u8>, 
     Ok(out)
 }
 
+/// Adds the file of rows that have one number each.
 fn put_text(out: &mut Vec<u8>, place: Place, rows: &[ImageRow]) -> Result<(), Memory>
     requires count { length rows.now ≤ 65536 }
     requires numbers { All HoldsNumber rows.now }
@@ -47,6 +49,7 @@ fn put_text(out: &mut Vec<u8>, place: Place, rows: &[ImageRow]) -> Result<(), Me
     Ok(())
 }
 
+/// Adds the header of a file without externals.
 fn put_header(out: &mut Vec<u8>, place: Place, archetypes: u32, rows: u32) -> Result<(), Memory>
     ensures { OnOk result (out.new.items ≡ out.old.items ++ header place archetypes rows 0) }
 {
@@ -59,11 +62,13 @@ fn put_header(out: &mut Vec<u8>, place: Place, archetypes: u32, rows: u32) -> Re
     Ok(())
 }
 
+/// Adds the archetype of type 1 alone, with all the rows.
 fn put_archetype(out: &mut Vec<u8>, rows: &[ImageRow]) -> Result<(), Memory>
     requires count { length rows.now ≤ 65536 }
     requires numbers { All HoldsNumber rows.now }
     ensures { OnOk result (out.new.items ≡ out.old.items ++ number_archetype rows.now) }
 {
+    // One type, of number 1.
     out.extend_from_slice(&[1, 1])?;
     out.extend_from_slice(&(rows.len() as u32).to_le_bytes())?;
     put_names(out, rows)?;
