@@ -3,3 +3,4 @@ pub mod Members
 pub mod NumberRows
 pub mod OneSpelling
 pub mod PlainImages
+pub mod Written

@@ -141,9 +141,3 @@ spelling-plain types image valid plain = numbers_spelled types image.place image
 pub number_text-some : (place : Place) (rows : List ImageRow) → 0 < length rows → number_text place rows ≡ header place 1 (length rows) 0 ++ number_archetype rows
 number_text-some place [] some = absurd (omega arith)
 number_text-some place (row ∷ rows) some = refl
-
--- what is written after nothing is the spelling
-pub spelled : (types : Types) (image : Image) (front after : List ℕ) (rows : List ImageRow) → IsValid types image → IsPlain types image → front ≡ [] → rows ≡ image.rows
-    → after ≡ front ++ number_text image.place rows → after ≡ spelling types image
-spelled types image front after rows valid plain nothing same is =
-    is ∙ (λ i. nothing i ++ number_text image.place (same i)) ∙ sym (spelling-plain types image valid plain)

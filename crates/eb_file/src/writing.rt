@@ -19,6 +19,7 @@ const ROW_BYTES: usize = 16;
 /// The bytes of the section file that holds the image: its one spelling. The only error is want of
 /// memory, which is asked for once. Takes time and memory in proportion to the rows, 16 bytes each.
 /// The bytes are described in `docs/section-file.md`.
+#[tactic(auto, using(crate::proofs::PlainImages::each_holds_number, crate::proofs::Written::spelled, crate::proofs::Written::spells))]
 pub fn encode(alloc: Global, schema: &Schema, image: &Image) -> Result<Vec<u8>, Memory>
     requires valid { IsValid schema.now image.now }
     requires plain { IsPlain schema.now image.now }

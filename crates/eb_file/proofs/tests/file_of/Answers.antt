@@ -1,6 +1,4 @@
-use Rattle.std.proofs.Common.{◌≡◌, ℕ, ◌<◌, ◌^◌, sym, subst, arith, List}
-use Rattle.eb_schema.specs.Schemas.{plain_types}
-use Rattle.eb_file.specs.Images.{IsValid, IsPlain}
+use Rattle.std.proofs.Common.{arith}
 use Rattle.eb_file.proofs.NumberRows.{valid_numbers, plain_numbers}
 use Rattle.eb_file.proofs.tests.file_of.Goals as goal
 
