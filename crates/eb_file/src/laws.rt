@@ -7,7 +7,8 @@ ghost use Rattle.eb_file.specs.Spelling.{Spells, spelling};
 
 /// Two texts that spell one image are equal. Does nothing.
 pub fn one_spelling()
-    ensures { (types : Types) (a b : List ℕ) (image : Image) → Spells types a image → Spells types b image → a ≡ b }
+    ensures { (types : Types) (a b : List ℕ) (image : Image)
+        → Spells types a image → Spells types b image → a ≡ b }
 {}
 
 /// Each image has a spelling. Does nothing.
