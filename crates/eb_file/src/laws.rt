@@ -18,12 +18,14 @@ pub fn has_spelling()
 
 /// Two images that one text spells are equal. Does nothing.
 pub fn images_apart()
-    ensures { (types : Types) (text : List ℕ) (a b : Image) → IsValid types a → IsPlain types a → IsValid types b → IsPlain types b
+    ensures { (types : Types) (text : List ℕ) (a b : Image)
+        → IsValid types a → IsPlain types a → IsValid types b → IsPlain types b
         → Spells types text a → Spells types text b → a ≡ b }
 {}
 
 /// No spelling goes on where another ends. Does nothing.
 pub fn spellings_end()
-    ensures { (types : Types) (text rest : List ℕ) (a b : Image) → IsValid types a → IsPlain types a → IsValid types b → IsPlain types b
+    ensures { (types : Types) (text rest : List ℕ) (a b : Image)
+        → IsValid types a → IsPlain types a → IsValid types b → IsPlain types b
         → Spells types text a → Spells types (text ++ rest) b → rest ≡ [] }
 {}
