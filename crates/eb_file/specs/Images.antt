@@ -21,7 +21,10 @@ use Rattle.eb_file.specs.Ascending.{each_once}
 
 -- the order of names: by play, then scene, then object, then extra
 abbrev pub name_cmp : Name → Name → Ordering
-name_cmp a b = ordering_then (nat_cmp a.play b.play) (ordering_then (nat_cmp a.scene b.scene) (ordering_then (nat_cmp a.object b.object) (nat_cmp a.extra b.extra)))
+name_cmp a b =
+    ordering_then (nat_cmp a.play b.play)
+    (ordering_then (nat_cmp a.scene b.scene)
+    (ordering_then (nat_cmp a.object b.object) (nat_cmp a.extra b.extra)))
 
 -- the names of the rows, in order
 abbrev pub names_of : List ImageRow → List Name
@@ -56,7 +59,8 @@ pub record IsName (number : ℕ) (name : Name) : Type 0 where
 -- a reference leads to a row, or from a section above 0 to an entity of section 0, or nowhere
 abbrev pub LinkFits : Image → Link → Type 0
 LinkFits image (Local name) = Contains (names_of image.rows) name
-LinkFits image (Zero name) = (0 < image.place.section) × IsName image.place.scene name × ¬ Contains (names_of image.rows) name
+LinkFits image (Zero name) =
+    (0 < image.place.section) × IsName image.place.scene name × ¬ Contains (names_of image.rows) name
 LinkFits image Null = ⊤
 
 -- a value is one of its field's kind, and in its range
@@ -73,7 +77,9 @@ ValueFits image kind (stored.Link link) = ⊥
 
 -- a cell has a stored type of the schema, and one value for each of its fields
 abbrev pub CellFits : Types → Image → StoredCell → Type 0
-CellFits types image cell = IsSomeAnd (component_of types cell.kind) (λ c. (c.mode ≡ modes.Stored) × AllZip (λ field value. ValueFits image field.kind value) c.fields cell.values)
+CellFits types image cell =
+    IsSomeAnd (component_of types cell.kind) (λ c.
+    (c.mode ≡ modes.Stored) × AllZip (λ field value. ValueFits image field.kind value) c.fields cell.values)
 
 pub record IsRow (types : Types) (image : Image) (row : ImageRow) : Type 0 where
   pub name : IsName image.place.scene row.name

@@ -1,3 +1,4 @@
 pub mod Ascending
 pub mod Images
+pub mod Plain
 pub mod Spelling

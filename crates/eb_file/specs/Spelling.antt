@@ -1,5 +1,5 @@
 -- The bytes of a section file, as a relation between whole texts and images, and as a function.
-use Rattle.std.specs.Prelude.{◌≡◌, ℕ, ◌+◌, Option, Some, None, List, [], ◌∷◌, ◌++◌, length, map, filter, find, flat_map, slice_get, nat_eq, ◌==◌, codes, option_map, option_and_then, unwrap_or}
+use Rattle.std.specs.Prelude.{◌≡◌, ℕ, ◌+◌, Option, List, [], ◌∷◌, ◌++◌, length, map, filter, find, flat_map, slice_get, nat_eq, ◌==◌, codes, option_map, option_and_then, unwrap_or}
 use Rattle.std.specs.Int.{w8, w16, w32, w64, cast_unsigned, to_le_bytes}
 use Rattle.std.specs.List.{enumerate_from, position_or_len}
 use Rattle.std.specs.Ordering.{nat_cmp, eq_by_cmp}
@@ -18,7 +18,7 @@ use Rattle.eb_file.specs.declared.images.Stored.TheVariants as stored
 use Rattle.eb_file.specs.declared.images.ImageRow.{ImageRow}
 use Rattle.eb_file.specs.declared.images.Image.{Image}
 use Rattle.eb_file.specs.Ascending.{IsEachOnce, each_once}
-use Rattle.eb_file.specs.Images.{name_cmp, names_of, types_of, zero_names}
+use Rattle.eb_file.specs.Images.{name_cmp, names_of, types_of, zero_names, externals_of}
 
 -- the order of lists of type numbers: item by item, a proper prefix first
 abbrev pub types_cmp : List ℕ → List ℕ → Ordering
@@ -57,7 +57,8 @@ value_at type index row = option_and_then (λ cell. slice_get cell.values index)
 
 -- the values of one field of a type, row by row
 abbrev pub column : Numbers → List ImageRow → ℕ → ℕ × Field → List ℕ
-column numbers rows type field = flat_map (λ row. unwrap_or (option_map (value_bytes numbers field.1.kind) (value_at type field.0 row)) []) rows
+column numbers rows type field =
+    flat_map (λ row. unwrap_or (option_map (value_bytes numbers field.1.kind) (value_at type field.0 row)) []) rows
 
 -- the fields of a type, each with its index
 abbrev pub fields_of : Types → ℕ → List (ℕ × Field)
@@ -69,18 +70,23 @@ name_bytes name = to_le_bytes w32 name.object ++ to_le_bytes w32 name.extra
 -- the types, the names of the rows with them, and the columns of each type
 abbrev pub archetype : Types → Numbers → List ImageRow → List ℕ → List ℕ
 archetype types numbers rows kinds =
-    length kinds ∷ kinds ++ to_le_bytes w32 (length (rows_with rows kinds)) ++ flat_map name_bytes (names_of (rows_with rows kinds))
+    length kinds ∷ kinds
+    ++ to_le_bytes w32 (length (rows_with rows kinds))
+    ++ flat_map name_bytes (names_of (rows_with rows kinds))
     ++ flat_map (λ type. flat_map (column numbers (rows_with rows kinds) type) (fields_of types type)) kinds
 
 abbrev pub header : Place → ℕ → ℕ → ℕ → List ℕ
 header place archetypes rows externals =
-    codes "EBSF" ++ to_le_bytes w16 1 ++ place.scene ∷ place.section ∷ [] ++ to_le_bytes w32 archetypes ++ to_le_bytes w32 rows ++ to_le_bytes w32 externals
+    codes "EBSF" ++ to_le_bytes w16 1 ++ place.scene ∷ place.section ∷ []
+    ++ to_le_bytes w32 archetypes ++ to_le_bytes w32 rows ++ to_le_bytes w32 externals
 
 -- header, archetypes and externals, end to end
 abbrev pub text_of : Types → Image → List (List ℕ) → List Name → List ℕ
 text_of types image archetypes externals =
     let numbers : Numbers = record { rows = names_of (flat_map (rows_with image.rows) archetypes); externals = externals } in
-    header image.place (length archetypes) (length image.rows) (length externals) ++ flat_map (archetype types numbers image.rows) archetypes ++ flat_map name_bytes externals
+    header image.place (length archetypes) (length image.rows) (length externals)
+    ++ flat_map (archetype types numbers image.rows) archetypes
+    ++ flat_map name_bytes externals
 
 -- The bytes spell the image: its archetypes are the different lists of types that rows have, ascending,
 -- and its externals are the names in section 0 that rows lead to, ascending.
@@ -93,4 +99,5 @@ pub record Spells (types : Types) (bytes : List ℕ) (image : Image) : Type 0 wh
 
 -- the one spelling of an image
 unfoldable pub spelling : Types → Image → List ℕ
-spelling types image = text_of types image (each_once types_cmp (map types_of image.rows)) (each_once name_cmp (zero_names image.rows))
+spelling types image =
+    text_of types image (each_once types_cmp (map types_of image.rows)) (externals_of image.rows)

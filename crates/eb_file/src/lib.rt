@@ -2,7 +2,11 @@
 #![tactic(auto)]
 
 pub mod images;
+pub mod laws;
 pub mod writing;
 
 pub use images::{Image, ImageRow, Link, Stored, StoredCell};
 pub use writing::encode;
+
+#[cfg(test)]
+mod tests;

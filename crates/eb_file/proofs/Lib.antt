@@ -1,0 +1,6 @@
+pub mod Apart
+pub mod Members
+pub mod NumberRows
+pub mod OneSpelling
+pub mod PlainImages
+pub mod Written
