@@ -66,3 +66,9 @@ IsFront-goes T (Ok x) before after files left held front goes = IsFront-same hel
 IsFront-goes T (Err Outside) before after files left held front goes = goes
 IsFront-goes T (Err Memory) before after files left held front goes = goes
 IsFront-goes T (Err Limit) before after files left held front goes = IsFront-same held before (ended 5 files left held) goes (IsFront-ended 5 files left held)
+
+-- a stop is one of the whole run, wherever it comes
+pub GoesOn-before : (T U : Type 0) (stop : Stop) (before between after later : Option End) (files : Option Files) (left held : Option (List ℕ)) → before ≡ between → GoesOn {T = T} (Err stop) between after files left held → GoesOn {T = U} (Err stop) before later files left held
+GoesOn-before T U Outside before between after later files left held same goes = IsFront-same held before between same goes
+GoesOn-before T U Memory before between after later files left held same goes = IsFront-same held before between same goes
+GoesOn-before T U Limit before between after later files left held same goes = same ∙ goes

@@ -1,16 +1,16 @@
 -- What a reader keeps while bytes come.
 use Rattle.std.proofs.Common.{◌≡◌, ℕ, zero, suc, ◌+◌, ◌-◌, ◌<◌, ◌≤◌, ◌^◌, ◌==◌, Bool, true, false, List, [], ◌∷◌, ◌++◌, length, replicate, refl, sym, ap, ◌∙◌, arith, length-append, append_assoc, append-nil, add-zero, add-one}
-use Rattle.std.specs.Prelude.{Option, None, Some, option_map}
+use Rattle.std.specs.Prelude.{Option, None, Some, option_map, Result, Ok, take}
 use Rattle.eb_outside.specs.Shelves.{Files}
-use Rattle.eb_outside.specs.Streams.{appended}
-use Rattle.eb_outside.proofs.Laws.{appended-append}
+use Rattle.eb_outside.specs.Streams.{appended, TakesKnown}
+use Rattle.eb_outside.proofs.Laws.{appended-append, TakesKnown-front}
 use Rattle.eb_session.specs.Machine.{State, answered}
 use Rattle.ebake.specs.declared.readers.Reader.{Reader}
 use Rattle.ebake.specs.Progress.{IsLine, MayCome, IsReady, IsSpent, Answers, line_of, whole, whole_of}
 use Rattle.ebake.proofs.LineFacts.{IsLine-push}
 use Rattle.ebake.proofs.LongLines.{answered-alike}
-use Rattle.ebake.proofs.WholeFacts.{whole-line, whole-alike, whole-full, whole-done, whole-closed}
-use Rattle.ebake.specs.Told.{ended}
+use Rattle.ebake.proofs.WholeFacts.{whole-line, whole-alike, whole-full, whole-out, whole-done, whole-closed}
+use Rattle.ebake.specs.Told.{ended, session_end}
 
 pub MayCome-some : (lines : ℕ) (line : List ℕ) → 0 < lines → MayCome lines line
 MayCome-some lines [] h = tt
@@ -127,3 +127,29 @@ whole_of-closed reader new before after left base kept now ready some spent answ
 pub empty_of_length : (bytes : List ℕ) → length bytes ≡ 0 → bytes ≡ []
 empty_of_length [] none = refl
 empty_of_length (b ∷ bs) none = absurd (omega arith)
+
+option_taken : (lines bytes : ℕ) (state : State) (line taken : List ℕ) (files : Option Files) (new held : Option (List ℕ)) → whole lines bytes state (line ++ []) files (option_map (λ l. taken ++ l) new) held ≡ whole lines bytes state (line ++ taken) files new held
+option_taken lines bytes state line taken None new held = refl
+option_taken lines bytes state line taken (Some files) None held = refl
+option_taken lines bytes state line taken (Some files) (Some left) None = refl
+option_taken lines bytes state line taken (Some files) (Some left) (Some held) =
+    ap (λ l. Some (session_end lines bytes state files l held)) (ap (λ l. l ++ (taken ++ left)) (append-nil line) ∙ sym (append_assoc line taken left))
+
+-- what was taken from the source is read before what is left
+pub whole_of-taken : (E : Type 0) (reader : Reader) (files : Option Files) (old new held : Option (List ℕ)) (n : ℕ) (buffer : List ℕ) → TakesKnown {E = E} old new (Ok n) buffer
+    → whole_of reader [] files old held ≡ whole_of reader (take n buffer) files new held
+whole_of-taken E reader files old new held n buffer takes =
+    ap (λ left. whole_of reader [] files left held) (TakesKnown-front E old new n buffer takes)
+    ∙ option_taken reader.lines reader.bytes reader.session (line_of reader) (take n buffer) files new held
+
+begun_may : (reader : Reader) (line : List ℕ) → reader.line.items ≡ line → IsReady reader → MayCome reader.lines line → MayCome reader.lines (line ++ replicate reader.skipped 0)
+begun_may reader [] same ready may =
+    let unskipped : reader.skipped ≡ 0 = none_skipped reader.line.items reader.skipped ready.skipped same in
+    rw unskipped tt
+begun_may reader (b ∷ bs) same ready may = may
+
+-- where all bytes that may come have come, one more ends the run
+pub whole_of-out : (reader : Reader) (taken : List ℕ) (files : Option Files) (left held : Option (List ℕ)) → IsReady reader → length (line_of reader) ≡ reader.bytes → 0 < length taken → whole_of reader taken files left held ≡ ended 5 files left held
+whole_of-out reader [] files left held ready full some = absurd (omega arith)
+whole_of-out reader (b ∷ bs) files left held ready full some =
+    whole-out reader.lines reader.bytes reader.session (line_of reader) b bs files left held (IsLine-line_of reader ready) full (begun_may reader reader.line.items refl ready ready.may)

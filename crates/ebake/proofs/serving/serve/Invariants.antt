@@ -6,7 +6,6 @@ use Rattle.ebake.proofs.serving.serve.Given as goal
 abbrev pub invariant-pieces : goal.invariant-pieces
 invariant-pieces g l = record {
   ready : IsReady l.reader;
-  size : length l.buffer.items ≡ 4096;
   none : l.kept.items ≡ [];
   told : whole_of l.fn.reader [] (g.H.Shelf.files l.fn.shelf) (g.I.Source.left l.fn.source) (g.O.Sink.put l.fn.sink)
       ≡ whole_of l.reader [] (g.H.Shelf.files l.shelf) (g.I.Source.left l.source) (g.O.Sink.put l.sink);
