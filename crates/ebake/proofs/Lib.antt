@@ -4,3 +4,4 @@ pub mod WholeFacts
 pub mod FrontFacts
 pub mod OutletFacts
 pub mod ReaderFacts
+pub mod ToldFacts

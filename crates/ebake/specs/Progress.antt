@@ -67,3 +67,10 @@ pub record Answers (line : List ℕ) (old new : State) (before after : Option Fi
 abbrev pub IsSpent : Option (List ℕ) → Type 0
 IsSpent None = ⊤
 IsSpent (Some left) = left ≡ []
+
+-- The run ended with this status, or by a limit; after a fault or want of memory the sink holds a front of the output.
+abbrev pub Follows : Result ℕ Stop → Option End → Option Files → Option (List ℕ) → Option (List ℕ) → Type 0
+Follows (Ok status) all files left held = all ≡ ended status files left held
+Follows (Err Limit) all files left held = all ≡ ended 5 files left held
+Follows (Err Outside) all files left held = IsFront held all
+Follows (Err Memory) all files left held = IsFront held all

@@ -1,5 +1,6 @@
 -- The whole run of the program: its status, its output and the files that it leaves.
 use Rattle.std.specs.Prelude.{ℕ, ◌++◌, Bool, true, false, Option, None, Some, List, [], ◌∷◌, codes}
+use Rattle.eb_outside.specs.Causes.{Rose}
 use Rattle.eb_outside.specs.Shelves.{Files}
 use Rattle.eb_session.specs.Machine.{State, Step, answered}
 use Rattle.eb_session.specs.Opening.{opened}
@@ -59,3 +60,9 @@ ended status (Some files) (Some left) (Some output) = Some (end_with status outp
 ended status (Some files) (Some left) None = None
 ended status (Some files) None output = None
 ended status None left output = None
+
+-- What the headline rests on beside memory: no count of faults rose, of the shelf, of the source or of the sink.
+pub record IsFaultless (shelf_old shelf_new source_old source_new sink_old sink_new : ℕ) : Type 0 where
+  pub shelf : ¬ (Rose shelf_old shelf_new)
+  pub source : ¬ (Rose source_old source_new)
+  pub sink : ¬ (Rose sink_old sink_new)

@@ -1,0 +1,112 @@
+// The whole run: words, opening, lines, status.
+ghost use Rattle.std.specs.Prelude.{◌≡◌, ◌≢◌, ◌≤◌, ◌-◌, ◌^◌, ◌⊎◌, ℕ, Bool, true, false, [], IfOk, IsErrOf, ◌↔◌};
+ghost use Rattle.eb_outside.specs.Causes.{Rose};
+ghost use Rattle.ebake.specs.Words.{is_form};
+ghost use Rattle.ebake.specs.Told.{told, ended, IsFaultless};
+ghost use Rattle.ebake.specs.Progress.{whole, IsFront, Follows};
+
+use eb_base::Text;
+use eb_outside::{OutsideError, Shelf, Sink, Source};
+use eb_session::{OpenEnd, Session};
+use std::alloc::Global;
+use std::thread::Threads;
+
+use crate::limits::Limits;
+use crate::outlet::give_all;
+use crate::readers::Reader;
+use crate::serving::serve;
+use crate::stops::Stop;
+use crate::words::{is_session, usage};
+
+/// Answers the lines of the source in a session that is open.
+fn answer_lines<H: Shelf, I: Source, O: Sink>(alloc: Global, limits: &Limits, session: Session, shelf: &mut H, source: &mut I, sink: &mut O) -> Result<u8, Stop>
+    requires { session.generation ≡ 0 }
+    ensures told { Follows result
+        (whole limits.now.lines limits.now.bytes session [] (H.files shelf.old) (I.left source.old) (O.put sink.old))
+        (H.files shelf.new) (I.left source.new) (O.put sink.new) }
+    ensures status { IfOk result (λ status. status ≡ 0) }
+    ensures shelf { H.faults shelf.old ≤ H.faults shelf.new }
+    ensures source { I.faults source.old ≤ I.faults source.new }
+    ensures sink { O.faults sink.old ≤ O.faults sink.new }
+    ensures cause { IsErrOf result Stop.Outside → Rose (H.faults shelf.old) (H.faults shelf.new) ⊎ (Rose (I.faults source.old) (I.faults source.new) ⊎ Rose (O.faults sink.old) (O.faults sink.new)) }
+{
+    let mut reader = Reader {
+        session,
+        line: Vec::new(alloc),
+        skipped: 0,
+        lines: limits.lines,
+        bytes: limits.bytes,
+    };
+    serve(alloc, &mut reader, shelf, source, sink)?;
+    Ok(0)
+}
+
+/// The status of the words' run, or why it stopped.
+fn outcome<H: Shelf, I: Source, O: Sink>(alloc: Global, limits: &Limits, words: &[Text], shelf: &mut H, source: &mut I, sink: &mut O) -> Result<u8, Stop>
+    ensures told { Follows result
+        (told limits.now.lines limits.now.bytes words.now (H.files shelf.old) (I.left source.old) (O.put sink.old))
+        (H.files shelf.new) (I.left source.new) (O.put sink.new) }
+    ensures status { IfOk result (λ status. (status ≡ 0) ⊎ ((status ≡ 2) ⊎ (status ≡ 3))) }
+    ensures words { IfOk result (λ status. status ≡ 2 ↔ (is_form words.now ≡ false)) }
+    ensures limit { IsErrOf result Stop.Limit → is_form words.now ≡ true }
+    ensures shelf { H.faults shelf.old ≤ H.faults shelf.new }
+    ensures source { I.faults source.old ≤ I.faults source.new }
+    ensures sink { O.faults sink.old ≤ O.faults sink.new }
+    ensures cause { IsErrOf result Stop.Outside → Rose (H.faults shelf.old) (H.faults shelf.new) ⊎ (Rose (I.faults source.old) (I.faults source.new) ⊎ Rose (O.faults sink.old) (O.faults sink.new)) }
+{
+    if !is_session(words) {
+        give_all(sink, usage())?;
+        return Ok(2);
+    }
+    match Session::open(alloc, shelf) {
+        Ok(session) => answer_lines(alloc, limits, session, shelf, source, sink),
+        Err(OpenEnd::Refused { line }) => {
+            give_all(sink, line.bytes())?;
+            Ok(3)
+        }
+        Err(OpenEnd::Shelf) => Err(Stop::Outside),
+        Err(OpenEnd::Memory) => Err(Stop::Memory),
+    }
+}
+
+/// Runs the program on the words behind its name, within limits, and answers its status.
+pub fn run_within<T: Threads + Sync, H: Shelf, I: Source, O: Sink>(_rt: &T, alloc: Global, limits: &Limits, words: &[Text], shelf: &mut H, source: &mut I, sink: &mut O) -> u8
+    ensures headline { IsFaultless (H.faults shelf.old) (H.faults shelf.new) (I.faults source.old) (I.faults source.new) (O.faults sink.old) (O.faults sink.new) → result ≢ 4 →
+        told limits.now.lines limits.now.bytes words.now (H.files shelf.old) (I.left source.old) (O.put sink.old)
+        ≡ ended result (H.files shelf.new) (I.left source.new) (O.put sink.new) }
+    ensures told { result ≢ 1 → result ≢ 4 →
+        told limits.now.lines limits.now.bytes words.now (H.files shelf.old) (I.left source.old) (O.put sink.old)
+        ≡ ended result (H.files shelf.new) (I.left source.new) (O.put sink.new) }
+    ensures front { (result ≡ 1) ⊎ (result ≡ 4) → IsFront (O.put sink.new)
+        (told limits.now.lines limits.now.bytes words.now (H.files shelf.old) (I.left source.old) (O.put sink.old)) }
+    ensures outside { result ≡ 1 → Rose (H.faults shelf.old) (H.faults shelf.new) ⊎ (Rose (I.faults source.old) (I.faults source.new) ⊎ Rose (O.faults sink.old) (O.faults sink.new)) }
+    ensures words { result ≡ 2 → is_form words.now ≡ false }
+    ensures no_form { is_form words.now ≡ false → (result ≡ 2) ⊎ ((result ≡ 1) ⊎ (result ≡ 4)) }
+    ensures range { result ≤ 5 }
+{
+    match outcome(alloc, limits, words, shelf, source, sink) {
+        Ok(status) => status,
+        Err(Stop::Outside) => 1,
+        Err(Stop::Memory) => 4,
+        Err(Stop::Limit) => 5,
+    }
+}
+
+/// Runs the program on the words behind its name, and answers its status: 0 done, 1 a counted fault of the
+/// outside, 2 words that are no form, 3 a refused folder, 4 want of memory, 5 a limit.
+pub fn run<T: Threads + Sync, H: Shelf, I: Source, O: Sink>(rt: &T, alloc: Global, words: &[Text], shelf: &mut H, source: &mut I, sink: &mut O) -> u8
+    ensures headline { IsFaultless (H.faults shelf.old) (H.faults shelf.new) (I.faults source.old) (I.faults source.new) (O.faults sink.old) (O.faults sink.new) → result ≢ 4 →
+        told (2 ^ 32 - 1) (2 ^ 40) words.now (H.files shelf.old) (I.left source.old) (O.put sink.old)
+        ≡ ended result (H.files shelf.new) (I.left source.new) (O.put sink.new) }
+    ensures told { result ≢ 1 → result ≢ 4 →
+        told (2 ^ 32 - 1) (2 ^ 40) words.now (H.files shelf.old) (I.left source.old) (O.put sink.old)
+        ≡ ended result (H.files shelf.new) (I.left source.new) (O.put sink.new) }
+    ensures front { (result ≡ 1) ⊎ (result ≡ 4) → IsFront (O.put sink.new)
+        (told (2 ^ 32 - 1) (2 ^ 40) words.now (H.files shelf.old) (I.left source.old) (O.put sink.old)) }
+    ensures outside { result ≡ 1 → Rose (H.faults shelf.old) (H.faults shelf.new) ⊎ (Rose (I.faults source.old) (I.faults source.new) ⊎ Rose (O.faults sink.old) (O.faults sink.new)) }
+    ensures words { result ≡ 2 → is_form words.now ≡ false }
+    ensures no_form { is_form words.now ≡ false → (result ≡ 2) ⊎ ((result ≡ 1) ⊎ (result ≡ 4)) }
+    ensures range { result ≤ 5 }
+{
+    run_within(rt, alloc, &Limits::most(), words, shelf, source, sink)
+}
