@@ -86,7 +86,7 @@ fn product(a: i64, b: i64) -> i128
 }
 
 // The floor of a / b.
-fn floor(a: i128, b: i128) -> i128
+pub(crate) fn floor(a: i128, b: i128) -> i128
     requires nonzero { b ≢ pos 0 }
     requires room { unsigned_abs a < 2 ^ 127 }
     requires small { unsigned_abs b < 2 ^ 127 }

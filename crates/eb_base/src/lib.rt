@@ -4,6 +4,7 @@
 
 pub mod calc;
 pub mod digits;
+pub mod fixed;
 pub mod items;
 pub mod memory;
 pub mod names;
@@ -14,6 +15,7 @@ pub mod words;
 
 pub use calc::{Calc, CalcFault};
 pub use digits::number_read;
+pub use fixed::{fix_read, fix_write};
 pub use items::Items;
 pub use memory::Memory;
 pub use names::{Entity, Name, Place, Tag, name_read, name_write};
