@@ -2,3 +2,4 @@ pub mod Numerals
 pub mod Printed
 pub mod NameTexts
 pub mod FixedReads
+pub mod FixedPrints
