@@ -3,3 +3,5 @@ pub mod Printed
 pub mod NameTexts
 pub mod FixedReads
 pub mod FixedPrints
+pub mod MapLaws
+pub mod NameOrder

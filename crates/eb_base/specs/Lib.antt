@@ -2,5 +2,6 @@
 pub mod Arithmetic
 pub mod Digits
 pub mod FixedPoint
+pub mod Maps
 pub mod Names
 pub mod TypeNames
