@@ -5,3 +5,4 @@ pub mod FixedReads
 pub mod FixedPrints
 pub mod MapLaws
 pub mod NameOrder
+pub mod Ascending

@@ -1,4 +1,4 @@
--- Names are in an exact total order, with which `==` agrees.
+-- Names and places are in exact total orders, with which `==` agrees.
 use Rattle.std.proofs.Common.{◌≡◌, ℕ, Bool, true, false, cond, ◌&&◌, ◌==◌, nat_lt, refl, sym, ◌∙◌, ap, arith}
 use Rattle.std.specs.Cmp.{IsTotalOrder, nat_cmp_total}
 use Rattle.std.specs.Ordering.{nat_cmp, ordering_then, eq_by_cmp, is_eq}
@@ -8,7 +8,9 @@ use Rattle.std.proofs.lemmas.Bool.Decides.{nat_tests}
 use Rattle.std.proofs.lemmas.Cmp.{on_total, then_total}
 use Rattle.std.proofs.lemmas.Map.Lookups.{CmpEqualImpliesEq, exact_pairs, exact_unsigned}
 use Rattle.eb_base.specs.Names.{name_cmp}
+use Rattle.eb_base.specs.Places.{place_cmp}
 use Rattle.eb_base.specs.declared.names.Name.{Name}
+use Rattle.eb_base.specs.declared.names.Place.{Place}
 
 pub names_total : IsTotalOrder name_cmp
 names_total =
@@ -38,3 +40,15 @@ pub names_same : (a b : Name) → ((a.play == b.play) && ((a.scene == b.scene) &
 names_same a b =
     pair_same _ _ _ _ (same_number a.play b.play)
     (pair_same _ _ _ _ (same_number a.scene b.scene) (pair_same _ _ _ _ (same_number a.object b.object) (same_number a.extra b.extra)))
+
+pub places_total : IsTotalOrder place_cmp
+places_total = then_total (on_total (λ (p : Place). p.scene) nat_cmp_total) (on_total (λ (p : Place). p.section) nat_cmp_total)
+
+pub exact_places : CmpEqualImpliesEq place_cmp
+exact_places a b h =
+    ap (λ (p : ℕ × ℕ). record { scene = p.0; section = p.1 })
+    (exact_pairs nat_cmp nat_cmp exact_unsigned exact_unsigned (a.scene, a.section) (b.scene, b.section) h)
+
+-- `==` of two places, as it is derived
+pub places_same : (a b : Place) → ((a.scene == b.scene) && (a.section == b.section)) ≡ eq_by_cmp place_cmp a b
+places_same a b = pair_same _ _ _ _ (same_number a.scene b.scene) (same_number a.section b.section)

@@ -4,4 +4,5 @@ pub mod Digits
 pub mod FixedPoint
 pub mod Maps
 pub mod Names
+pub mod Places
 pub mod TypeNames

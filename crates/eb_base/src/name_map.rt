@@ -1,11 +1,13 @@
 // A map under names: contracts see it as a finite map, and say nothing of how it is kept.
 ghost use Rattle.std.specs.Prelude.{◌≡◌, option_copied, is_some, IfOk, OnOk, OnErr};
 ghost use Rattle.std.specs.FinMap as map;
+ghost use Rattle.std.specs.Map.Iter.{ShowsInOrder, deref_pair};
 
 use crate::memory::Memory;
 use crate::names::Name;
 use std::alloc::Global;
 use std::collections::BTreeMap;
+use std::collections::btree_map::Iter;
 use std::marker::Model;
 
 /// Values under names, in the names' order.
@@ -59,5 +61,27 @@ impl<T> NameMap<T> {
         ensures taken { self.new ≡ map.remove self.old name.now }
     {
         self.inner.remove(name)
+    }
+
+    /// Whether there is a value under a name. Takes no memory.
+    pub fn contains(&self, name: &Name) -> bool
+        ensures { result ≡ is_some (map.get self.now name.now) }
+    {
+        self.get(name).is_some()
+    }
+
+    /// How many names there are. Takes no memory.
+    pub fn len(&self) -> usize
+        ensures { result ≡ map.len self.now }
+    {
+        self.inner.len()
+    }
+
+    /// The names with their values, in the names' order. Takes no memory.
+    pub fn iter(&self) -> Iter<'_, Name, T>
+        ensures rest { result ≡ map.entries self.now }
+        ensures runs { ShowsInOrder (deref_pair {K = Name} {X = T}) }
+    {
+        self.inner.iter()
     }
 }
