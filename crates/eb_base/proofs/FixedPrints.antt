@@ -1,11 +1,11 @@
 -- What is printed of a number of units is exact, and reads back.
-use Rattle.std.proofs.Common.{◌≡◌, ℕ, zero, suc, ◌+◌, ◌-◌, ◌*◌, ◌/◌, ◌%◌, ◌^◌, ◌<◌, ◌≤◌, Bool, true, false, cond, ◌&&◌, nat_lt, nat_le, ◌==◌, List, [], ◌∷◌, ◌++◌, length, take, drop, slice_index, decimal, ℤ, pos, negsuc, neg_ℤ, refl, sym, ◌∙◌, ap, subst, arith, lit<, zero-add, append-nil, ◌≢◌}
+use Rattle.std.proofs.Common.{◌≡◌, ℕ, zero, suc, ◌+◌, ◌-◌, ◌*◌, ◌/◌, ◌%◌, ◌^◌, ◌<◌, ◌≤◌, Bool, true, false, cond, ◌&&◌, nat_lt, nat_le, ◌==◌, List, [], ◌∷◌, ◌++◌, length, drop, slice_index, decimal, ℤ, pos, negsuc, neg_ℤ, refl, sym, ◌∙◌, ap, subst, arith, lit<, zero-add, append-nil, ◌≢◌}
 use Rattle.std.specs.Prelude.{Option, Some, None, option_and_then}
 use Rattle.std.specs.Char.{is_ascii_digit}
 use Rattle.std.specs.Str.{all_ascii_digits}
 use Rattle.std.proofs.Math.Nat.{pow-suc, add-mul, mul_assoc, mul_comm, mul-div_cancel, add-mul-div_left, one-le-pow, zero-mul, div-eq_of_lt}
 use Rattle.std.proofs.Math.Seq.{take-append_seam}
-use Rattle.std.proofs.lemmas.Bool.{lt-ltb, ltb-true}
+use Rattle.std.proofs.lemmas.Bool.{ltb-true}
 use Rattle.std.proofs.lemmas.Bool.Decides.{nat_tests}
 use Rattle.std.proofs.lemmas.Fmt.{digits_decimal, digits_value-decimal, decimal_nonempty, length-decimal-le}
 use Rattle.eb_base.specs.Arithmetic.{floor_over, fits_i64}
@@ -78,6 +78,40 @@ fraction_length zero zero = omega arith
 fraction_length (suc k) zero = omega arith
 fraction_length zero (suc r) = omega arith
 fraction_length (suc k) (suc r) = omega (arith, fraction_length k (suc r * 10 % 65536))
+
+last_of_more : (d : ℕ) (ds : List ℕ) → (length ds ≡ 0 → d ≢ 48) → (0 < length ds → slice_index ds (length ds - 1) ≢ 48) → slice_index (d ∷ ds) (length ds) ≢ 48
+last_of_more d [] alone later = alone refl
+last_of_more d (e ∷ es) alone later =
+    let same : length es ≡ length (e ∷ es) - 1 = omega arith in
+    subst (λ k. slice_index (e ∷ es) k ≢ 48) (sym same) (later (omega arith))
+
+empty_done : (k r q : ℕ) → r < 65536 → r * 10 ^ k ≡ q * 65536 → length (fraction_digits k r) ≡ 0 → r ≡ 0
+empty_done zero zero q small e none = refl
+empty_done (suc k) zero q small e none = refl
+empty_done zero (suc r) q small e none = absurd (omega arith)
+empty_done (suc k) (suc r) q small e none = absurd (omega arith)
+
+positive_digit : (s d rest : ℕ) → s * 10 ≡ 65536 * d + rest → 0 < s → rest ≡ 0 → 48 + d ≢ 48
+positive_digit s d rest cut h z e = omega arith
+
+-- they end with the last that isn't 0
+pub fraction_ends : (k r q : ℕ) → r < 65536 → r * 10 ^ k ≡ q * 65536 → 0 < length (fraction_digits k r) → slice_index (fraction_digits k r) (length (fraction_digits k r) - 1) ≢ 48
+fraction_ends zero zero q small e some_digit = absurd (omega arith)
+fraction_ends (suc k) zero q small e some_digit = absurd (omega arith)
+fraction_ends zero (suc r) q small e some_digit = absurd (omega arith)
+fraction_ends (suc k) (suc r) q small e some_digit =
+    let s = suc r in
+    let d = s * 10 / 65536 in
+    let rest = s * 10 % 65536 in
+    let ds = fraction_digits k rest in
+    let cut : s * 10 ≡ 65536 * d + rest = omega arith in
+    let below : rest < 65536 = omega arith in
+    let power : s * (10 ^ k * 10) ≡ q * 65536 = ap (λ p. s * p) (sym (pow-suc 10 k)) ∙ e in
+    let split_here = tens s d rest (10 ^ k) cut in
+    let left : rest * 10 ^ k ≡ (q - d * 10 ^ k) * 65536 = omega (arith, power, split_here) in
+    let whole = last_of_more (48 + d) ds (λ none. positive_digit s d rest cut (omega arith) (empty_done k rest (q - d * 10 ^ k) below left none)) (fraction_ends k rest (q - d * 10 ^ k) below left) in
+    let same : length ds ≡ suc (length ds) - 1 = omega arith in
+    subst (λ i. slice_index ((48 + d) ∷ ds) i ≢ 48) same whole
 
 -- ---- the floor of a whole number of units
 

@@ -6,3 +6,4 @@ pub mod FixedPrints
 pub mod MapLaws
 pub mod NameOrder
 pub mod Ascending
+pub mod Floors

@@ -4,12 +4,12 @@ use Rattle.std.specs.Prelude.{Option, Some, None, option_map, is_some}
 use Rattle.std.specs.Cmp.{IsTotalOrder, eq_by_cmp_equiv}
 use Rattle.std.specs.Ordering.{eq_by_cmp, is_lt}
 use Rattle.std.specs.declared.cmp.Ordering.{Ordering}
-use Rattle.std.specs.declared.cmp.Ordering.TheVariants.{Less, Equal, Greater}
+use Rattle.std.specs.declared.cmp.Ordering.TheVariants.{Less}
 use Rattle.std.specs.BTreeMap.{is_at}
 use Rattle.std.specs.Map.{lookup, keys_of}
 use Rattle.std.specs.List.{AllByRecursion}
 use Rattle.std.specs.List.Sorted.{IsStrictlySortedBy}
-use Rattle.std.specs.FinMap.{FinMap, get, insert, remove, entries, from_entries, from_sorted, get-from_entries, get-insert, get-remove, get-entries, get-from_sorted, get-retain_keys, get_tied, entries_sorted, entries-from_sorted, same_map, empty, get-empty}
+use Rattle.std.specs.FinMap.{FinMap, get, insert, remove, entries, from_entries, from_sorted, get-from_entries, get-insert, get-remove, get-entries, get-from_sorted, get-retain_keys, get_tied, entries_sorted, entries-from_sorted, same_map}
 use Rattle.std.specs.FinMap.Entries.{find, is_sorted, below_all}
 use Rattle.std.proofs.lemmas.Map.Lookups.{CmpEqualImpliesEq}
 use Rattle.eb_base.specs.Maps.{map_values, passing, kept_values}

@@ -1,5 +1,5 @@
 -- Maps that are made from maps, and whether a list ascends.
-use Rattle.std.specs.Prelude.{◌≡◌, Bool, true, cond, ◌&&◌, List, [], ◌∷◌, map, Option, Some, None, is_some}
+use Rattle.std.specs.Prelude.{Bool, true, cond, ◌&&◌, List, [], ◌∷◌, map, Option, Some, None, is_some}
 use Rattle.std.specs.FinMap.{FinMap, entries, from_sorted, get, retain_keys}
 use Rattle.std.specs.Ordering.{is_lt}
 use Rattle.std.specs.declared.cmp.Ordering.{Ordering}

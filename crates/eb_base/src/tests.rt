@@ -246,6 +246,9 @@ fn compared(a: Place, b: Place) -> Ordering
     a.cmp(&b)
 }
 
+// What threads may share.
+fn shared<T: Send + Sync>(_value: &T) {}
+
 #[test]
 fn places_and_texts(rt: HostRuntime) -> Result<(), Fail> {
     let first = Place {
@@ -257,6 +260,9 @@ fn places_and_texts(rt: HostRuntime) -> Result<(), Fail> {
         section: 0,
     };
     assert!(rt; compared(first, second).is_lt());
+    shared(&first);
+    let names: NameMap<Items<Text>> = NameMap::new(rt.alloc());
+    shared(&names);
     let text = Text::of(rt.alloc(), b"abc")?;
     let same = text.copy(rt.alloc())?;
     assert!(rt; same.is(b"abc") && !same.is(b"ab"));

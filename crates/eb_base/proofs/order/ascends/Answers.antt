@@ -1,4 +1,4 @@
-use Rattle.std.proofs.Common.{◌≡◌, ◌≤◌, length, sym, ◌∙◌, arith}
+use Rattle.std.proofs.Common.{◌≤◌, length, sym, ◌∙◌, arith}
 use Rattle.eb_base.proofs.Ascending.{last_one}
 use Rattle.eb_base.proofs.order.ascends.Goals as goal
 

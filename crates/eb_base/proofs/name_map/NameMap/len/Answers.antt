@@ -1,4 +1,4 @@
-use Rattle.std.proofs.Common.{◌≡◌, length, ap, sym, ◌∙◌}
+use Rattle.std.proofs.Common.{length, ap, sym, ◌∙◌}
 use Rattle.std.specs.FinMap as map
 use Rattle.eb_base.proofs.MapLaws.{entries-from_entries}
 use Rattle.eb_base.proofs.NameOrder.{names_total, exact_names}

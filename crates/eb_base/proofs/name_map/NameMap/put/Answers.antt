@@ -1,4 +1,4 @@
-use Rattle.std.proofs.Common.{◌≡◌, ap, sym, ◌∙◌}
+use Rattle.std.proofs.Common.{ap, sym, ◌∙◌}
 use Rattle.std.specs.FinMap as map
 use Rattle.eb_base.proofs.MapLaws.{get-lookup, one_put}
 use Rattle.eb_base.proofs.NameOrder.{names_total, exact_names}
