@@ -2,7 +2,13 @@
 #![tactic(auto)]
 
 pub mod documents;
+pub mod faults;
+
 pub mod members;
+pub mod places;
 
 pub use documents::{document, is_null, is_text, whole_number, whole_number_within};
+pub use faults::FormFault;
+
 pub use members::has_keys;
+pub use places::after;
