@@ -40,3 +40,10 @@ fn after_members(place: u32, map: &Map<String, Value>) -> u32
     }
     next
 }
+
+/// The place of the first node inside the list or object at this place.
+pub fn inside(place: u32) -> u32
+    ensures { result ≡ further place 1 }
+{
+    place.saturating_add(1)
+}
