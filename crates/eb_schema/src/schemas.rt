@@ -1,18 +1,21 @@
 // The schema as a whole.
 ghost use Rattle.std.specs.Prelude.{◌≡◌, [], ◌∷◌, IfOk};
-ghost use Rattle.eb_schema.specs.Schemas.{plain_field, plain_types};
+ghost use Rattle.std.specs.Option.{option_copied};
+ghost use Rattle.eb_schema.specs.Schemas.{plain_field, plain_types, component_of, component_named, authoring_of, authoring_named};
 
+use crate::copies::copies_of;
 use crate::kinds::{Authoring, Component, Field, Kind, Mode};
+use crate::tables::Table;
 use eb_base::{AuthorNo, Items, Memory, Text, TypeNo};
 use std::alloc::Global;
 use std::marker::Model;
 
 /// The schema of a project. Contracts see its three lists.
-#[derive(Debug, Drop)]
+#[derive(Drop)]
 pub struct Schema {
     assets: Items<Field>,
-    authoring: Items<Authoring>,
-    components: Items<Component>,
+    authoring: Table<Authoring>,
+    components: Table<Component>,
 }
 
 impl Model for Schema {
@@ -60,8 +63,74 @@ impl Schema {
         })?;
         Ok(Schema {
             assets: Items::new(alloc),
-            authoring: Items::of(authoring),
-            components: Items::of(components),
+            authoring: Table::of(alloc, Items::of(authoring))?,
+            components: Table::of(alloc, Items::of(components))?,
+        })
+    }
+
+    /// The component type of this number. Takes no memory, and time by the logarithm of their count.
+    pub fn component(&self, kind: TypeNo) -> Option<&Component>
+        ensures { option_copied result ≡ component_of self.now kind }
+    {
+        self.components.numbered(kind.number())
+    }
+
+    /// The number of the component type of this name. Takes no memory, and time by the logarithm of their count.
+    pub fn component_named(&self, name: &[u8]) -> Option<TypeNo>
+        ensures { result ≡ component_named self.now name.now }
+    {
+        match self.components.named(name) {
+            Some(component) => Some(component.number),
+            None => None,
+        }
+    }
+
+    /// The authoring type of this number. Takes no memory, and time by the logarithm of their count.
+    pub fn authoring(&self, kind: AuthorNo) -> Option<&Authoring>
+        ensures { option_copied result ≡ authoring_of self.now kind }
+    {
+        self.authoring.numbered(kind.number())
+    }
+
+    /// The number of the authoring type of this name. Takes no memory, and time by the logarithm of their count.
+    pub fn authoring_named(&self, name: &[u8]) -> Option<AuthorNo>
+        ensures { result ≡ authoring_named self.now name.now }
+    {
+        match self.authoring.named(name) {
+            Some(authoring) => Some(authoring.number),
+            None => None,
+        }
+    }
+
+    /// The fields of an asset. Takes no memory.
+    pub fn asset_fields(&self) -> &[Field]
+        ensures { result.now ≡ self.now.assets }
+    {
+        self.assets.items()
+    }
+
+    /// The component types, in the order of the document. Takes no memory.
+    pub fn components(&self) -> &[Component]
+        ensures { result.now ≡ self.now.components }
+    {
+        self.components.items()
+    }
+
+    /// The authoring types, in the order of the document. Takes no memory.
+    pub fn authoring_types(&self) -> &[Authoring]
+        ensures { result.now ≡ self.now.authoring }
+    {
+        self.authoring.items()
+    }
+
+    /// An equal schema.
+    pub fn copy(&self, alloc: Global) -> Result<Self, Memory>
+        ensures { IfOk result (λ schema. schema ≡ self.now) }
+    {
+        Ok(Schema {
+            assets: copies_of(alloc, self.assets.items())?,
+            authoring: Table::of(alloc, copies_of(alloc, self.authoring.items())?)?,
+            components: Table::of(alloc, copies_of(alloc, self.components.items())?)?,
         })
     }
 }
