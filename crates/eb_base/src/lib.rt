@@ -2,14 +2,27 @@
 //! as plain lists, and want of memory as an error.
 #![tactic(auto)]
 
+pub mod calc;
+pub mod digits;
+pub mod fixed;
 pub mod items;
 pub mod memory;
 pub mod names;
 pub mod numbers;
+pub mod steps;
 pub mod texts;
+pub mod words;
 
+pub use calc::{Calc, CalcFault};
+pub use digits::number_read;
+pub use fixed::{fix_read, fix_write};
 pub use items::Items;
 pub use memory::Memory;
-pub use names::{Entity, Name, Place, Tag};
+pub use names::{Entity, Name, Place, Tag, name_read, name_write};
 pub use numbers::{AuthorNo, TypeNo};
+pub use steps::Steps;
 pub use texts::Text;
+pub use words::is_name;
+
+#[cfg(test)]
+mod tests;

@@ -1,4 +1,11 @@
 // The names of entities, the places of sections, and the handle of a living entity.
+ghost use Rattle.std.specs.Prelude.{◌≡◌, ℕ, List, option_map, IfOk};
+ghost use Rattle.eb_base.specs.Names.{IsName, name_of, name_text, part, first_part};
+
+use crate::digits::{number_read, point_place};
+use crate::memory::Memory;
+use crate::texts::Text;
+use std::alloc::Global;
 
 /// The name of an entity: it stays the same from the scene that it was authored in to the running world.
 /// Names are ordered by these fields, in this order.
@@ -42,3 +49,58 @@ impl Entity {
         serial: 0,
     };
 }
+
+/// The name that a text writes: four decimal numbers below 2^32, without sign or leading zeros, joined by points.
+/// None exactly where the text has another form. Takes no memory.
+pub fn name_read(text: &[u8]) -> Option<Name>
+    ensures { result ≡ name_of text.now }
+{
+    let (play, text) = first_part_read(text)?;
+    let (scene, text) = first_part_read(text)?;
+    let (object, text) = first_part_read(text)?;
+    let extra = part_read(text)?;
+    Some(Name {
+        play,
+        scene,
+        object,
+        extra,
+    })
+}
+
+/// The text of a name, which `name_read` reads back.
+pub fn name_write(alloc: Global, name: &Name) -> Result<Text, Memory>
+    ensures { IfOk result (λ text. text ≡ name_text name.now) }
+{
+    let Name {
+        play,
+        scene,
+        object,
+        extra,
+    } = *name;
+    let text = format!(in alloc; "{play}.{scene}.{object}.{extra}")?;
+    Ok(Text::from_vec(text.into_bytes()))
+}
+
+// The number up to the first point, and what stands behind that point.
+fn first_part_read(text: &[u8]) -> Option<(u32, &[u8])>
+    ensures { option_map (λ p. (p.0, p.1.now)) result ≡ first_part text.now }
+{
+    let at = point_place(text)?;
+    let number = part_read(&text[..at])?;
+    Some((number, &text[at + 1..]))
+}
+
+// A number below 2^32.
+fn part_read(text: &[u8]) -> Option<u32>
+    ensures { result ≡ part text.now }
+{
+    let number = number_read(1 << 32, text)?;
+    Some(number as u32)
+}
+
+/// The law that names read back, and that no other text is read as one.
+pub fn names_read_back()
+    ensures back { (name : Name) → IsName name → name_of (name_text name) ≡ Some name }
+    ensures exact { (text : List ℕ) (name : Name) → name_of text ≡ Some name → text ≡ name_text name }
+    ensures numbers { (text : List ℕ) (name : Name) → name_of text ≡ Some name → IsName name }
+{}

@@ -1,0 +1,4 @@
+pub mod Numerals
+pub mod Printed
+pub mod NameTexts
+pub mod FixedReads
