@@ -1,13 +1,14 @@
 -- Reading the items of a list one after the other, as a loop does.
-use Rattle.std.proofs.Common.{Option, Some, true, false, if◌then◌else◌, nat_le, ◌≡◌, ℕ, suc, ◌+◌, ◌<◌, ◌≤◌, List, [], ◌∷◌, ◌++◌, length, get_or, drop, Result, Ok, Err, refl, sym, ap, ◌∙◌, append_assoc, add-one, drop-cons, arith}
+use Rattle.std.specs.Option.{option_and_then}
+use Rattle.std.proofs.Common.{Some, None, true, false, if◌then◌else◌, nat_le, ◌≡◌, ℕ, suc, ◌+◌, ◌<◌, ◌≤◌, List, [], ◌∷◌, ◌++◌, length, get_or, drop, Result, Ok, Err, refl, sym, ap, ◌∙◌, append_assoc, add-one, drop-cons, arith}
 use Rattle.std.proofs.Math.ListN.{drop_of_length-le}
 use Rattle.std.proofs.lemmas.List.{append-nil}
-use Rattle.serde_json.specs.Data.{Data, Items, item}
+use Rattle.serde_json.specs.Data.{Data, item}
 use Rattle.serde_json.specs.View.{view, items_view}
 use Rattle.serde_json.specs.declared.value.Value.{Value}
 use Rattle.eb_json.specs.declared.faults.FormFault.{FormFault}
 use Rattle.eb_json.specs.declared.faults.FormFault.TheVariants.{Memory, Wrong}
-use Rattle.eb_json.specs.Forms.{◌>>=◌, Fails, or_wrong, items_at, list_within_at}
+use Rattle.eb_json.specs.Forms.{◌>>=◌, Fails, or_wrong, items_at, list_within_at, pair_of, pair_at}
 use Rattle.eb_json.specs.Places.{further, after}
 use Rattle.std.proofs.lemmas.Bool.Decides.{nat_tests}
 use Rattle.serde_json.specs.Find.{as_array}
@@ -63,3 +64,13 @@ module _ {X : Type 0} (form : ℕ → Data → Result X FormFault) (most place :
 
   pub list_within_at-short : length vs ≤ most → items_at form (further place 1) (items_view vs) ≡ list_within_at most form place d
   list_within_at-short fit = let yes : nat_le (length vs) most ≡ true = grind (arith, nat_tests) in sym (measured ∙ ap (λ b. if b then items_at form (further place 1) (items_view vs) else Err (Wrong place)) yes)
+
+not_two : (vs : List Value) → (length vs ≡ 2 → ⊥) → pair_of (items_view vs) ≡ None
+not_two [] other = refl
+not_two (a ∷ []) other = refl
+not_two (a ∷ b ∷ []) other = absurd (other refl)
+not_two (a ∷ b ∷ c ∷ vs) other = refl
+
+-- a list of another length than two is no pair
+pub pair_at-other : (place : ℕ) (d : Data) (vs : List Value) → Some (items_view vs) ≡ as_array d → (length vs ≡ 2 → ⊥) → pair_at place d ≡ Err (Wrong place)
+pair_at-other place d vs is other = ap (λ o. or_wrong place (option_and_then pair_of o)) (sym is) ∙ ap (or_wrong place) (not_two vs other)

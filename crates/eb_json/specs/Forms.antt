@@ -1,8 +1,8 @@
 -- Forms: what a node at a place reads as, or the place of the first wrong node. Nodes are read in
 -- preorder, so the first wrong node is the one of the least number.
-use Rattle.std.specs.Prelude.{◌≡◌, ℕ, ◌+◌, ℤ, int_le, ◌&&◌, List, [], ◌∷◌, Bool, true, false, if◌then◌else◌, nat_le, Option, Some, None, Result, Ok, Err}
-use Rattle.serde_json.specs.Data.{Data, null, boolean, number, string, array, object, Items, no_items, item, Members}
-use Rattle.serde_json.specs.Find.{get, as_array, as_number, as_i64, as_str}
+use Rattle.std.specs.Prelude.{◌≡◌, ℕ, ℤ, ◌&&◌, List, [], ◌∷◌, Bool, true, false, if◌then◌else◌, nat_le, Option, Some, None, option_and_then, Result, Ok, Err}
+use Rattle.serde_json.specs.Data.{Data, Items, no_items, item}
+use Rattle.serde_json.specs.Find.{get, as_array, as_number, as_u64, as_str}
 use Rattle.serde_json.specs.Events.{items_len}
 use Rattle.eb_json.specs.declared.faults.FormFault.{FormFault}
 use Rattle.eb_json.specs.declared.faults.FormFault.TheVariants.{Memory, Wrong}
@@ -71,3 +71,21 @@ abbrev pub list_within_at : {X : Type 0} → ℕ → (ℕ → Data → Result X 
 list_within_at most form place d = do
   ds ← or_wrong place (as_array d)
   if nat_le (items_len ds) most then items_at form (further place 1) ds else Err (Wrong place)
+
+abbrev pub natural_within : ℕ → ℕ → Option ℕ → Option ℕ
+natural_within least most None = None
+natural_within least most (Some n) = if nat_le least n && nat_le n most then Some n else None
+
+-- a whole number from least to most, which are not below 0
+abbrev pub natural_at : ℕ → ℕ → ℕ → Data → Result ℕ FormFault
+natural_at least most place d = or_wrong place (natural_within least most (option_and_then as_u64 (as_number d)))
+
+abbrev pub pair_of : Items → Option (Data × Data)
+pair_of no_items = None
+pair_of (item a no_items) = None
+pair_of (item a (item b no_items)) = Some (a, b)
+pair_of (item a (item b (item c ds))) = None
+
+-- a list of exactly two items
+abbrev pub pair_at : ℕ → Data → Result (Data × Data) FormFault
+pair_at place d = or_wrong place (option_and_then pair_of (as_array d))

@@ -1,7 +1,7 @@
 // Forms, and readers of the plain ones: each answers what a node is, or the place of the first wrong node.
-ghost use Rattle.std.specs.Prelude.{◌≡◌, map};
+ghost use Rattle.std.specs.Prelude.{◌≡◌, ◌≤◌, IfOk, map};
 ghost use Rattle.serde_json.specs.View.{view};
-ghost use Rattle.eb_json.specs.Forms.{Gives, text_at, whole_number_at, object_at, member_at};
+ghost use Rattle.eb_json.specs.Forms.{Gives, text_at, whole_number_at, object_at, member_at, natural_at, pair_at};
 
 use crate::documents::whole_number_within;
 use crate::faults::FormFault;
@@ -63,6 +63,38 @@ pub fn member<'a>(place: u32, value: &'a Value, key: &str) -> Result<&'a Value, 
 {
     match value.get(key) {
         Some(found) => Ok(found),
+        None => Err(FormFault::Wrong { place }),
+    }
+}
+
+/// The whole number from `least` to `most` that the node is, where neither is below 0. Takes no memory.
+pub fn natural_in(place: u32, value: &Value, least: u32, most: u32) -> Result<u32, FormFault>
+    ensures value { Gives (λ n. n) result (natural_at least most place (view value.now)) }
+    ensures range { IfOk result (λ n. (least ≤ n) × (n ≤ most)) }
+{
+    match value.as_u64() {
+        Some(number) => {
+            if number >= least as u64 && number <= most as u64 {
+                Ok(number as u32)
+            } else {
+                Err(FormFault::Wrong { place })
+            }
+        }
+        None => Err(FormFault::Wrong { place }),
+    }
+}
+
+/// The two items of the list of exactly two that the node is. Takes no memory.
+pub fn pair<'a>(place: u32, value: &'a Value) -> Result<(&'a Value, &'a Value), FormFault>
+    ensures { Gives (λ p. (view p.0.now, view p.1.now)) result (pair_at place (view value.now)) }
+{
+    match value.as_array() {
+        Some(list) => match list.as_slice() {
+            [] => Err(FormFault::Wrong { place }),
+            [_] => Err(FormFault::Wrong { place }),
+            [first, second] => Ok((first, second)),
+            [_, _, _, ..] => Err(FormFault::Wrong { place }),
+        },
         None => Err(FormFault::Wrong { place }),
     }
 }

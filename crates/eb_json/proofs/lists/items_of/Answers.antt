@@ -10,7 +10,7 @@ returns-in_err-read g c =
 pub loop-value-preserved : goal.loop-value-preserved
 loop-value-preserved g c =
     rw (c.in_ok-push.ensures.items, c.after-next.ensures)
-        (goes_on (g.F.Form.reads c.args.form.now) _ _ _ _ _ _ _ c.loop-value-test.true c.value-item.is c.in_ok-read.ensures c.loop-value.invariant)
+    (goes_on (g.F.Form.reads c.args.form.now) _ _ _ _ _ _ _ c.loop-value-test.true c.value-item.is c.in_ok-read.ensures c.loop-value.invariant)
 
 pub returns : goal.returns
 returns g c = ends (g.F.Form.reads c.args.form.now) _ _ _ _ _ c.loop-value-test.false c.loop-value.invariant

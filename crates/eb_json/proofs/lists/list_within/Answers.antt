@@ -1,4 +1,4 @@
-use Rattle.std.proofs.Common.{◌∙◌, arith, subst, Vec, Global, List}
+use Rattle.std.proofs.Common.{arith, subst, Vec, Global}
 use Rattle.eb_json.specs.Forms.{Gives}
 use Rattle.eb_json.proofs.FormFacts.{list_within_at-long, list_within_at-short}
 use Rattle.eb_json.proofs.lists.list_within.Goals as goal
