@@ -2,7 +2,9 @@
 #![tactic(auto)]
 
 mod copies;
+mod drafts;
 pub mod kinds;
+mod reading;
 pub mod schemas;
 mod tables;
 
