@@ -1,5 +1,5 @@
 // A schema's document that has its form and isn't tested further: each part that a refusal can name has its place.
-use crate::kinds::Mode;
+use crate::kinds::{Authoring, Component, Field, Mode};
 use eb_base::{AuthorNo, Items, Text, TypeNo};
 
 /// A part of a document, and the place of its node.
@@ -40,4 +40,20 @@ pub struct Draft {
     pub assets: Placed<Items<DraftField>>,
     pub authoring: Placed<Items<DraftAuthoring>>,
     pub components: Placed<Items<DraftComponent>>,
+}
+
+/// What a list of fields belongs to.
+#[derive(Clone, Copy)]
+pub enum Holder {
+    OfAssets,
+    OfAuthoring,
+    OfComponent,
+}
+
+/// The lists of a schema.
+#[derive(Drop)]
+pub struct Lists {
+    pub assets: Items<Field>,
+    pub authoring: Items<Authoring>,
+    pub components: Items<Component>,
 }

@@ -3,10 +3,14 @@
 
 mod copies;
 mod drafts;
+pub mod faults;
 pub mod kinds;
+mod making;
 mod reading;
+mod testing;
 pub mod schemas;
 mod tables;
 
+pub use faults::SchemaFault;
 pub use kinds::{Authoring, Component, Field, Kind, Mode};
 pub use schemas::Schema;
