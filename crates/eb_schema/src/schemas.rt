@@ -1,12 +1,20 @@
 // The schema as a whole.
 ghost use Rattle.std.specs.Prelude.{◌≡◌, [], ◌∷◌, IfOk};
 ghost use Rattle.std.specs.Option.{option_copied};
+ghost use Rattle.serde_json.specs.View.{view};
+ghost use Rattle.eb_schema.specs.SchemaFaults.{Tells};
+ghost use Rattle.eb_schema.specs.SchemaTests.{schema_of};
 ghost use Rattle.eb_schema.specs.Schemas.{plain_field, plain_types, component_of, component_named, authoring_of, authoring_named};
 
 use crate::copies::copies_of;
+use crate::faults::SchemaFault;
 use crate::kinds::{Authoring, Component, Field, Kind, Mode};
+use crate::reading::DraftForm;
 use crate::tables::Table;
+use crate::testing::lists;
 use eb_base::{AuthorNo, Items, Memory, Text, TypeNo};
+use eb_json::Form;
+use serde_json::Value;
 use std::alloc::Global;
 use std::marker::Model;
 
@@ -65,6 +73,21 @@ impl Schema {
             assets: Items::new(alloc),
             authoring: Table::of(alloc, Items::of(authoring))?,
             components: Table::of(alloc, Items::of(components))?,
+        })
+    }
+
+    /// The schema that a document is. Its form is tested first, over the whole document; among the other
+    /// refusals the one of the least place is given.
+    #[tactic(auto, unfolding(crate::specs::SchemaTests::schema_of))]
+    pub fn read(alloc: Global, document: &Value) -> Result<Self, SchemaFault>
+        ensures { Tells result (schema_of (view document.now)) }
+    {
+        let draft = DraftForm.read(alloc, 0, document)?;
+        let lists = lists(alloc, &draft)?;
+        Ok(Schema {
+            assets: lists.assets,
+            authoring: Table::of(alloc, lists.authoring)?,
+            components: Table::of(alloc, lists.components)?,
         })
     }
 
