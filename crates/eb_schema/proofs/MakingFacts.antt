@@ -31,7 +31,7 @@ module _ {D X : Type 0} (makes : List D → D → Result X SchemaFault) (front :
   one_more : (d : D) → i < length ds → d ≡ get_or ds i d → total ≡ with_front front (each_of makes (take i ds) (d ∷ drop (i + 1) ds))
   one_more d lt is =
       sym so_far ∙ ap (λ es. with_front front (each_of makes (take i ds) es))
-          (drop-cons ds i d lt ∙ ap (λ e. e ∷ drop (suc i) ds) (sym is) ∙ ap (λ n. d ∷ drop n ds) (sym (add-one i)))
+      (drop-cons ds i d lt ∙ ap (λ e. e ∷ drop (suc i) ds) (sym is) ∙ ap (λ n. d ∷ drop n ds) (sym (add-one i)))
 
   grown : (d : D) → i < length ds → d ≡ get_or ds i d → take i ds ++ d ∷ [] ≡ take (i + 1) ds
   grown d lt is = ap (λ e. take i ds ++ e ∷ []) is ∙ sym (take_more ds i d lt)
@@ -41,7 +41,7 @@ module _ {D X : Type 0} (makes : List D → D → Result X SchemaFault) (front :
   goes_on d x lt is made =
       let rest = λ (before : List D). each_of makes before (drop (i + 1) ds) in
       sym (one_more d lt is ∙ ap (λ r. with_front front (r >>= λ y. rest (take i ds ++ d ∷ []) >>= λ ys. Ok (y ∷ ys))) made
-          ∙ regroup front x (rest (take i ds ++ d ∷ [])) ∙ ap (λ before. with_front (front ++ x ∷ []) (rest before)) (grown d lt is))
+      ∙ regroup front x (rest (take i ds ++ d ∷ [])) ∙ ap (λ before. with_front (front ++ x ∷ []) (rest before)) (grown d lt is))
 
   pub stops : (fault : SchemaFault) (d : D) → i < length ds → d ≡ get_or ds i d → Refuses fault (makes (take i ds) d) → Refuses fault total
   unfolding each_of

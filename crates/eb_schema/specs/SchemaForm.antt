@@ -50,11 +50,11 @@ component_parts_at at_fields fields mode name type_number =
     let at_mode = after at_fields fields in
     let at_name = after at_mode mode in
     let at_number = after at_name name in do
-    fs ← list_at field_at at_fields fields
-    m ← mode_at at_mode mode
-    n ← name_at at_name name
-    k ← natural_at 1 128 at_number type_number
-    Ok (record { fields = placed at_fields fs; mode = m; name = placed at_name n; number = placed at_number k })
+      fs ← list_at field_at at_fields fields
+      m ← mode_at at_mode mode
+      n ← name_at at_name name
+      k ← natural_at 1 128 at_number type_number
+      Ok (record { fields = placed at_fields fs; mode = m; name = placed at_name n; number = placed at_number k })
 
 unfoldable pub component_at : ℕ → Data → Result DraftComponent FormFault
 component_at place d = do
@@ -70,11 +70,11 @@ authoring_parts_at at_copy copy fields name type_number =
     let at_fields = after at_copy copy in
     let at_name = after at_fields fields in
     let at_number = after at_name name in do
-    c ← null_or_at text_at at_copy copy
-    fs ← list_at field_at at_fields fields
-    n ← name_at at_name name
-    k ← natural_at 1 128 at_number type_number
-    Ok (record { copy = placed at_copy c; fields = placed at_fields fs; name = placed at_name n; number = placed at_number k })
+      c ← null_or_at text_at at_copy copy
+      fs ← list_at field_at at_fields fields
+      n ← name_at at_name name
+      k ← natural_at 1 128 at_number type_number
+      Ok (record { copy = placed at_copy c; fields = placed at_fields fs; name = placed at_name n; number = placed at_number k })
 
 unfoldable pub authoring_at : ℕ → Data → Result DraftAuthoring FormFault
 authoring_at place d = do
@@ -89,10 +89,10 @@ unfoldable pub draft_parts_at : ℕ → Data → Data → Data → Result Draft 
 draft_parts_at at_assets assets authoring components =
     let at_authoring = after at_assets assets in
     let at_components = after at_authoring authoring in do
-    fs ← list_at field_at at_assets assets
-    types ← list_at authoring_at at_authoring authoring
-    cs ← list_at component_at at_components components
-    Ok (record { assets = placed at_assets fs; authoring = placed at_authoring types; components = placed at_components cs })
+      fs ← list_at field_at at_assets assets
+      types ← list_at authoring_at at_authoring authoring
+      cs ← list_at component_at at_components components
+      Ok (record { assets = placed at_assets fs; authoring = placed at_authoring types; components = placed at_components cs })
 
 unfoldable pub draft_keys : List (List ℕ)
 draft_keys = codes "assets" ∷ codes "authoring" ∷ codes "components" ∷ []

@@ -68,8 +68,8 @@ each_within most makes drafts = if nat_le (length drafts.value) most then each_o
 unfoldable pub field_from : Holder → List DraftField → DraftField → Result Field SchemaFault
 field_from holder before draft =
     if list_any (λ f. bytes_eq f.name.value draft.name.value) before then Err (NameTaken draft.name.place) else do
-    kind ← allowed_kind holder draft.kind.place (kind_of draft.kind.value)
-    Ok (record { name = draft.name.value; kind = kind })
+      kind ← allowed_kind holder draft.kind.place (kind_of draft.kind.value)
+      Ok (record { name = draft.name.value; kind = kind })
 
 abbrev pub fields_from : Holder → Placed (List DraftField) → Result (List Field) SchemaFault
 fields_from holder drafts = each_within 16 (field_from holder) drafts
@@ -78,8 +78,8 @@ unfoldable pub component_from : List DraftComponent → DraftComponent → Resul
 component_from before draft = do
   fields ← fields_from OfComponent draft.fields
   if list_any (λ c. bytes_eq c.name.value draft.name.value) before then Err (NameTaken draft.name.place) else
-    (if list_any (λ c. c.number.value == draft.number.value) before then Err (NumberTaken draft.number.place) else
-    Ok (record { number = draft.number.value; name = draft.name.value; mode = draft.mode; fields = fields }))
+      (if list_any (λ c. c.number.value == draft.number.value) before then Err (NumberTaken draft.number.place) else
+      Ok (record { number = draft.number.value; name = draft.name.value; mode = draft.mode; fields = fields }))
 
 -- the same names and kinds, as texts, in the same order
 abbrev pub same_field : DraftField → DraftField → Bool

@@ -7,10 +7,15 @@ pub mod faults;
 pub mod kinds;
 mod making;
 mod reading;
-mod testing;
 pub mod schemas;
 mod tables;
+mod testing;
 
 pub use faults::SchemaFault;
 pub use kinds::{Authoring, Component, Field, Kind, Mode};
 pub use schemas::Schema;
+
+#[cfg(test)]
+mod fixture;
+#[cfg(test)]
+mod tests;

@@ -30,7 +30,11 @@ pub trait Maker {
 }
 
 /// Each draft made, in order.
-fn each<M: Maker>(alloc: Global, maker: &M, drafts: &[M::Draft]) -> Result<Items<M::Made>, SchemaFault>
+fn each<M: Maker>(
+    alloc: Global,
+    maker: &M,
+    drafts: &[M::Draft],
+) -> Result<Items<M::Made>, SchemaFault>
     ensures { Tells result (each_of (M.makes maker.now) [] drafts.now) }
 {
     let mut made = Vec::new(alloc);

@@ -7,7 +7,9 @@ ghost use Rattle.eb_schema.specs.SchemaForm.{name_at, mode_at, field_at, compone
 use crate::drafts::{Draft, DraftAuthoring, DraftComponent, DraftField, Placed};
 use crate::kinds::Mode;
 use eb_base::{AuthorNo, Items, Text, TypeNo, is_name};
-use eb_json::{Form, FormFault, after, inside, list_of, member, natural_in, null_or, object, pair, text};
+use eb_json::{
+    Form, FormFault, after, inside, list_of, member, natural_in, null_or, object, pair, text,
+};
 use serde_json::Value;
 use std::alloc::Global;
 
@@ -120,10 +122,19 @@ fn component_parts(
     let name = name(alloc, name_place, name_value)?;
     let number = type_number(number_place, number)?;
     Ok(DraftComponent {
-        fields: Placed { place, value: fields },
+        fields: Placed {
+            place,
+            value: fields,
+        },
         mode,
-        name: Placed { place: name_place, value: name },
-        number: Placed { place: number_place, value: number },
+        name: Placed {
+            place: name_place,
+            value: name,
+        },
+        number: Placed {
+            place: number_place,
+            value: number,
+        },
     })
 }
 
@@ -197,9 +208,18 @@ fn authoring_parts(
     let number = author_number(number_place, number)?;
     Ok(DraftAuthoring {
         copy: Placed { place, value: copy },
-        fields: Placed { place: fields_place, value: fields },
-        name: Placed { place: name_place, value: name },
-        number: Placed { place: number_place, value: number },
+        fields: Placed {
+            place: fields_place,
+            value: fields,
+        },
+        name: Placed {
+            place: name_place,
+            value: name,
+        },
+        number: Placed {
+            place: number_place,
+            value: number,
+        },
     })
 }
 
@@ -246,8 +266,17 @@ fn draft_parts(
     let authoring = list_of(alloc, &AuthoringForm, authoring_place, authoring)?;
     let components = list_of(alloc, &ComponentForm, components_place, components)?;
     Ok(Draft {
-        assets: Placed { place, value: assets },
-        authoring: Placed { place: authoring_place, value: Items::of(authoring) },
-        components: Placed { place: components_place, value: Items::of(components) },
+        assets: Placed {
+            place,
+            value: assets,
+        },
+        authoring: Placed {
+            place: authoring_place,
+            value: Items::of(authoring),
+        },
+        components: Placed {
+            place: components_place,
+            value: Items::of(components),
+        },
     })
 }

@@ -89,7 +89,12 @@ impl Maker for FieldMaker {
     ghost makes = { λ m. field_from m.holder };
 
     #[tactic(auto, unfolding(crate::specs::SchemaTests::field_from))]
-    fn make(&self, alloc: Global, before: &[DraftField], draft: &DraftField) -> Result<Field, SchemaFault> {
+    fn make(
+        &self,
+        alloc: Global,
+        before: &[DraftField],
+        draft: &DraftField,
+    ) -> Result<Field, SchemaFault> {
         if is_field_name(before, draft.name.value.bytes()) {
             return Err(SchemaFault::NameTaken {
                 place: draft.name.place,
@@ -111,7 +116,11 @@ fn is_field_name(fields: &[DraftField], name: &[u8]) -> bool
 }
 
 /// Makes a list of at most 16 fields.
-fn fields(alloc: Global, holder: Holder, drafts: &Placed<Items<DraftField>>) -> Result<Items<Field>, SchemaFault>
+fn fields(
+    alloc: Global,
+    holder: Holder,
+    drafts: &Placed<Items<DraftField>>,
+) -> Result<Items<Field>, SchemaFault>
     ensures { Tells result (fields_from holder drafts.now) }
 {
     make_each(alloc, &FieldMaker { holder }, MOST_FIELDS, drafts)
@@ -129,7 +138,12 @@ impl Maker for ComponentMaker {
     ghost makes = { λ _. component_from };
 
     #[tactic(auto, unfolding(crate::specs::SchemaTests::component_from))]
-    fn make(&self, alloc: Global, before: &[DraftComponent], draft: &DraftComponent) -> Result<Component, SchemaFault> {
+    fn make(
+        &self,
+        alloc: Global,
+        before: &[DraftComponent],
+        draft: &DraftComponent,
+    ) -> Result<Component, SchemaFault> {
         let fields = fields(alloc, Holder::OfComponent, &draft.fields)?;
         if is_component_name(before, draft.name.value.bytes()) {
             return Err(SchemaFault::NameTaken {
@@ -178,7 +192,12 @@ impl<'a> Maker for AuthoringMaker<'a> {
     ghost makes = { λ m. authoring_from m.components.now };
 
     #[tactic(auto, unfolding(crate::specs::SchemaTests::authoring_from))]
-    fn make(&self, alloc: Global, before: &[DraftAuthoring], draft: &DraftAuthoring) -> Result<Authoring, SchemaFault> {
+    fn make(
+        &self,
+        alloc: Global,
+        before: &[DraftAuthoring],
+        draft: &DraftAuthoring,
+    ) -> Result<Authoring, SchemaFault> {
         let copy = copy(self.components, before, draft)?;
         let fields = fields(alloc, Holder::OfAuthoring, &draft.fields)?;
         authoring_with(alloc, before, draft, copy, fields)
@@ -266,7 +285,11 @@ fn copy_named(
 }
 
 /// The number of the component type, which has these fields.
-fn copied_to(place: u32, fields: &[DraftField], component: &DraftComponent) -> Result<Option<TypeNo>, SchemaFault>
+fn copied_to(
+    place: u32,
+    fields: &[DraftField],
+    component: &DraftComponent,
+) -> Result<Option<TypeNo>, SchemaFault>
     ensures { Tells result (copied_to place fields.now (Some component.now)) }
 {
     if same_fields(component.fields.value.items(), fields) {
@@ -319,7 +342,8 @@ fn same_fields(left: &[DraftField], right: &[DraftField]) -> bool
 fn is_same(one: &DraftField, other: &DraftField) -> bool
     ensures { result ≡ same_field one.now other.now }
 {
-    one.name.value.bytes() == other.name.value.bytes() && one.kind.value.bytes() == other.kind.value.bytes()
+    one.name.value.bytes() == other.name.value.bytes()
+        && one.kind.value.bytes() == other.kind.value.bytes()
 }
 
 /// The lists of a draft.

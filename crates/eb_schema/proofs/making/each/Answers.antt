@@ -11,7 +11,7 @@ returns-in_err-make g c =
 pub loop-index-preserved : goal.loop-index-preserved
 loop-index-preserved g c =
     rw c.in_ok-push.ensures.items
-        (goes_on (g.M.Maker.makes c.args.maker.now) _ _ _ _ c.loop-index.invariant _ _ c.loop-index-test.true c.index-drafts-index.is c.in_ok-make.ensures)
+    (goes_on (g.M.Maker.makes c.args.maker.now) _ _ _ _ c.loop-index.invariant _ _ c.loop-index-test.true c.index-drafts-index.is c.in_ok-make.ensures)
 
 pub returns : goal.returns
 returns g c = rw c.of.ensures (ends (g.M.Maker.makes c.args.maker.now) _ _ _ _ c.loop-index.invariant c.loop-index-test.false)
