@@ -1,1 +1,2 @@
+pub mod FormFacts
 pub mod DocumentFacts

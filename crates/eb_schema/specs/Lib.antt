@@ -1,1 +1,5 @@
+pub mod Tables
 pub mod Schemas
+pub mod SchemaForm
+pub mod SchemaFaults
+pub mod SchemaTests

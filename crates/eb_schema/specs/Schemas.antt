@@ -1,6 +1,6 @@
 -- What a schema says: the fields of assets, the authoring types and the component types, each list in
 -- the order of the document.
-use Rattle.std.specs.Prelude.{◌==◌, ℕ, Option, Some, List, [], ◌∷◌, codes, find}
+use Rattle.std.specs.Prelude.{◌==◌, ℕ, Option, Some, option_map, bytes_eq, List, [], ◌∷◌, codes, find}
 use Rattle.eb_schema.specs.declared.kinds.Kind.TheVariants.{I64}
 use Rattle.eb_schema.specs.declared.kinds.Mode.TheVariants.{Stored}
 use Rattle.eb_schema.specs.declared.kinds.Field.{Field}
@@ -19,6 +19,14 @@ component_of types number = find (λ c. c.number == number) types.components
 -- the authoring type of a number
 abbrev pub authoring_of : Types → ℕ → Option Authoring
 authoring_of types number = find (λ a. a.number == number) types.authoring
+
+-- the number of the component type of a name
+abbrev pub component_named : Types → List ℕ → Option ℕ
+component_named types name = option_map (λ c. c.number) (find (λ c. bytes_eq name c.name) types.components)
+
+-- the number of the authoring type of a name
+abbrev pub authoring_named : Types → List ℕ → Option ℕ
+authoring_named types name = option_map (λ a. a.number) (find (λ a. bytes_eq name a.name) types.authoring)
 
 -- the one field of the plain schema's types
 abbrev pub plain_field : Field

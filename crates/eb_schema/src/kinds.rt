@@ -1,4 +1,5 @@
 // What a schema is made of: kinds of fields, fields, component types and authoring types.
+use crate::tables::Listed;
 use eb_base::{AuthorNo, Items, Text, TypeNo};
 
 /// What one field holds.
@@ -64,4 +65,32 @@ pub struct Authoring {
     pub copy: Option<TypeNo>,
     /// At most 16 fields.
     pub fields: Items<Field>,
+}
+
+impl Listed for Component {
+    ghost number_of = { λ c. c.number };
+
+    ghost name_of = { λ c. c.name };
+
+    fn number(&self) -> u8 {
+        self.number.number()
+    }
+
+    fn name(&self) -> &[u8] {
+        self.name.bytes()
+    }
+}
+
+impl Listed for Authoring {
+    ghost number_of = { λ a. a.number };
+
+    ghost name_of = { λ a. a.name };
+
+    fn number(&self) -> u8 {
+        self.number.number()
+    }
+
+    fn name(&self) -> &[u8] {
+        self.name.bytes()
+    }
 }

@@ -1,18 +1,29 @@
 // The schema as a whole.
 ghost use Rattle.std.specs.Prelude.{◌≡◌, [], ◌∷◌, IfOk};
-ghost use Rattle.eb_schema.specs.Schemas.{plain_field, plain_types};
+ghost use Rattle.std.specs.Option.{option_copied};
+ghost use Rattle.serde_json.specs.View.{view};
+ghost use Rattle.eb_schema.specs.SchemaFaults.{Tells};
+ghost use Rattle.eb_schema.specs.SchemaTests.{schema_of};
+ghost use Rattle.eb_schema.specs.Schemas.{plain_field, plain_types, component_of, component_named, authoring_of, authoring_named};
 
+use crate::copies::copies_of;
+use crate::faults::SchemaFault;
 use crate::kinds::{Authoring, Component, Field, Kind, Mode};
+use crate::reading::DraftForm;
+use crate::tables::Table;
+use crate::testing::lists;
 use eb_base::{AuthorNo, Items, Memory, Text, TypeNo};
+use eb_json::Form;
+use serde_json::Value;
 use std::alloc::Global;
 use std::marker::Model;
 
 /// The schema of a project. Contracts see its three lists.
-#[derive(Debug, Drop)]
+#[derive(Drop)]
 pub struct Schema {
     assets: Items<Field>,
-    authoring: Items<Authoring>,
-    components: Items<Component>,
+    authoring: Table<Authoring>,
+    components: Table<Component>,
 }
 
 impl Model for Schema {
@@ -60,8 +71,89 @@ impl Schema {
         })?;
         Ok(Schema {
             assets: Items::new(alloc),
-            authoring: Items::of(authoring),
-            components: Items::of(components),
+            authoring: Table::of(alloc, Items::of(authoring))?,
+            components: Table::of(alloc, Items::of(components))?,
+        })
+    }
+
+    /// The schema that a document is. Its form is tested first, over the whole document; among the other
+    /// refusals the one of the least place is given.
+    #[tactic(auto, unfolding(crate::specs::SchemaTests::schema_of))]
+    pub fn read(alloc: Global, document: &Value) -> Result<Self, SchemaFault>
+        ensures { Tells result (schema_of (view document.now)) }
+    {
+        let draft = DraftForm.read(alloc, 0, document)?;
+        let lists = lists(alloc, &draft)?;
+        Ok(Schema {
+            assets: lists.assets,
+            authoring: Table::of(alloc, lists.authoring)?,
+            components: Table::of(alloc, lists.components)?,
+        })
+    }
+
+    /// The component type of this number. Takes no memory, and time by the logarithm of their count.
+    pub fn component(&self, kind: TypeNo) -> Option<&Component>
+        ensures { option_copied result ≡ component_of self.now kind }
+    {
+        self.components.numbered(kind.number())
+    }
+
+    /// The number of the component type of this name. Takes no memory, and time by the logarithm of their count.
+    pub fn component_named(&self, name: &[u8]) -> Option<TypeNo>
+        ensures { result ≡ component_named self.now name.now }
+    {
+        match self.components.named(name) {
+            Some(component) => Some(component.number),
+            None => None,
+        }
+    }
+
+    /// The authoring type of this number. Takes no memory, and time by the logarithm of their count.
+    pub fn authoring(&self, kind: AuthorNo) -> Option<&Authoring>
+        ensures { option_copied result ≡ authoring_of self.now kind }
+    {
+        self.authoring.numbered(kind.number())
+    }
+
+    /// The number of the authoring type of this name. Takes no memory, and time by the logarithm of their count.
+    pub fn authoring_named(&self, name: &[u8]) -> Option<AuthorNo>
+        ensures { result ≡ authoring_named self.now name.now }
+    {
+        match self.authoring.named(name) {
+            Some(authoring) => Some(authoring.number),
+            None => None,
+        }
+    }
+
+    /// The fields of an asset. Takes no memory.
+    pub fn asset_fields(&self) -> &[Field]
+        ensures { result.now ≡ self.now.assets }
+    {
+        self.assets.items()
+    }
+
+    /// The component types, in the order of the document. Takes no memory.
+    pub fn components(&self) -> &[Component]
+        ensures { result.now ≡ self.now.components }
+    {
+        self.components.items()
+    }
+
+    /// The authoring types, in the order of the document. Takes no memory.
+    pub fn authoring_types(&self) -> &[Authoring]
+        ensures { result.now ≡ self.now.authoring }
+    {
+        self.authoring.items()
+    }
+
+    /// An equal schema.
+    pub fn copy(&self, alloc: Global) -> Result<Self, Memory>
+        ensures { IfOk result (λ schema. schema ≡ self.now) }
+    {
+        Ok(Schema {
+            assets: copies_of(alloc, self.assets.items())?,
+            authoring: Table::of(alloc, copies_of(alloc, self.authoring.items())?)?,
+            components: Table::of(alloc, copies_of(alloc, self.components.items())?)?,
         })
     }
 }
