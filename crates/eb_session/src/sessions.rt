@@ -25,7 +25,7 @@ use crate::requests::{Request, read_request};
 const PROJECT_FILE: &str = "project.json";
 
 /// A session over a folder. Contracts see it as a state of the machine.
-#[derive(Debug, Drop)]
+#[derive(Drop)]
 pub struct Session {
     alloc: Global,
     schema: Schema,
