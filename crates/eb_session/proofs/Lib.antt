@@ -1,4 +1,4 @@
 pub mod ItemLists
 pub mod SceneFacts
-pub mod ImageFacts
 pub mod RequestFacts
+pub mod OpeningFacts

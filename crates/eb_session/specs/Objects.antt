@@ -5,11 +5,10 @@ use Rattle.std.specs.Ordering.{nat_cmp}
 use Rattle.std.specs.BTreeMap.{is_at, insert_entry}
 use Rattle.std.specs.Map.{keys_of, values_of, lookup}
 use Rattle.std.specs.List.Sorted.{IsStrictlySortedBy}
-use Rattle.eb_base.specs.declared.names.Name.{Name}
 use Rattle.eb_base.specs.declared.names.Place.{Place}
-use Rattle.eb_file.specs.declared.images.Stored.TheVariants.{Num}
 use Rattle.eb_file.specs.declared.images.ImageRow.{ImageRow}
 use Rattle.eb_file.specs.declared.images.Image.{Image}
+use Rattle.eb_file.specs.Plain.{number_row}
 
 -- each object with the value of its one component, ascending by the objects' numbers
 abbrev pub Objects : Type 0
@@ -35,9 +34,7 @@ the_place = record { scene = 1; section = 0 }
 
 -- the stored entity of an object: its name, and its value as the one field of component type 1
 abbrev pub row_of : ℕ × ℤ → ImageRow
-row_of object = record {
-  name = record { play = 0; scene = 1; object = object.0; extra = 0 };
-  cells = record { kind = 1; values = Num object.1 ∷ [] } ∷ [] }
+row_of object = number_row 1 object.0 object.1
 
 -- the image of section 1:0
 abbrev pub image_of : Objects → Image

@@ -1,5 +1,5 @@
 use Rattle.std.proofs.Common.{rules, ap, ◌∙◌, sym, subst}
-use Rattle.eb_session.proofs.ImageFacts.{IsValid-image_of, IsPlain-image_of}
+use Rattle.eb_session.proofs.SceneFacts.{IsValid-image_of, IsPlain-image_of}
 use Rattle.eb_session.proofs.object_table.ObjectTable.image.Goals as goal
 
 pub returns-clause-valid : goal.returns-clause-valid
