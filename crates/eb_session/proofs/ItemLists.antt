@@ -1,7 +1,6 @@
 -- Lists of a document by how many items they have.
-use Rattle.std.proofs.Common.{◌≡◌, ℕ, ◌<◌, ◌≤◌, Bool, false, Option, None, Some, List, [], ◌∷◌, length, refl, arith}
+use Rattle.std.proofs.Common.{◌≡◌, ◌≤◌, false, None, Some, List, [], ◌∷◌, length, refl, arith}
 use Rattle.serde_json.specs.View.{items_view}
-use Rattle.serde_json.specs.Data.{Data}
 use Rattle.serde_json.specs.declared.value.Value.{Value}
 use Rattle.eb_session.specs.PlainProject.{only_item, is_empty_list}
 

@@ -1,5 +1,5 @@
 -- What a folder opens as, by what its project file holds.
-use Rattle.std.proofs.Common.{◌≡◌, ℕ, List, refl, sym, ap, ◌∙◌, codes}
+use Rattle.std.proofs.Common.{◌≡◌, ℕ, List, sym, ap, ◌∙◌, codes}
 use Rattle.std.specs.Prelude.{Option, None, Some, IfSome, option_map}
 use Rattle.std.specs.FinMap.{get}
 use Rattle.eb_outside.specs.Shelves.{Files}

@@ -1,5 +1,5 @@
 -- Lines that are no requests.
-use Rattle.std.proofs.Common.{◌≡◌, ℕ, ◌<◌, ◌≤◌, false, List, length, ap, arith, nat_le}
+use Rattle.std.proofs.Common.{◌≡◌, ℕ, ◌<◌, false, List, length, ap, arith, nat_le}
 use Rattle.std.specs.Prelude.{None, option_and_then}
 use Rattle.std.proofs.lemmas.Bool.Decides.{nat_tests}
 use Rattle.eb_json.specs.Documents.{document_of}

@@ -1,5 +1,5 @@
 -- The session as a machine: a line and a state give a reply, a new state and the files of the folder.
-use Rattle.std.specs.Prelude.{ℕ, ◌+◌, ◌++◌, ℤ, Bool, true, false, not, Option, None, Some, List, [], ◌∷◌, length, codes}
+use Rattle.std.specs.Prelude.{ℕ, ◌+◌, ◌++◌, ℤ, Bool, true, false, not, Option, None, Some, List, length, codes}
 use Rattle.std.specs.Fmt.{decimal}
 use Rattle.std.specs.FinMap.{insert}
 use Rattle.std.specs.Str.{bytes_eq}

@@ -6,12 +6,11 @@ ghost use Rattle.eb_file.specs.Images.{IsValid, IsPlain};
 ghost use Rattle.eb_session.specs.Objects.{Objects, value_of, with_value, row_of, image_of};
 ghost use Rattle.eb_session.specs.PlainProject.{if_true, added};
 
+use eb_base::{Items, Memory, Name, Place, TypeNo};
+use eb_file::{Image, ImageRow, Stored, StoredCell};
 use std::alloc::Global;
 use std::collections::BTreeMap;
 use std::marker::Model;
-
-use eb_base::{Items, Memory, Name, Place, TypeNo};
-use eb_file::{Image, ImageRow, Stored, StoredCell};
 
 /// How many objects a scene has at most.
 pub const MOST_OBJECTS: usize = 16384;

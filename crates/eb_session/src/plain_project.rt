@@ -4,12 +4,11 @@ ghost use Rattle.serde_json.specs.Find.{get, as_array};
 ghost use Rattle.serde_json.specs.View.{view, items_view};
 ghost use Rattle.eb_session.specs.PlainProject.{if_true, only_member, only_item, is_empty_list, is_null_member, is_natural, natural_of, object_number_of, component_value_of, is_plain_object, object_of, added, with_objects, objects_in, scene_of, project_of};
 
+use crate::object_table::ObjectTable;
 use eb_base::Memory;
 use eb_json::{has_keys, is_null, whole_number};
 use serde_json::Value;
 use std::alloc::Global;
-
-use crate::object_table::ObjectTable;
 
 /// The member at the key, where the value is an object that has this key alone.
 fn only_member<'a>(value: &'a Value, key: &str) -> Option<&'a Value>

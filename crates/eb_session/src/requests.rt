@@ -4,12 +4,11 @@ ghost use Rattle.serde_json.specs.Find.{get};
 ghost use Rattle.serde_json.specs.View.{view};
 ghost use Rattle.eb_session.specs.Requests.{is_text_member, is_publish, is_set_field, set_field_of, request_in, request_of};
 
+use crate::plain_project::{is_natural_member, object_number};
 use eb_base::Memory;
 use eb_json::{document, has_keys, is_text, whole_number};
 use serde_json::Value;
 use std::alloc::Global;
-
-use crate::plain_project::{is_natural_member, object_number};
 
 /// The most bytes that a line may have, without its line feed.
 pub const MOST_LINE_BYTES: usize = 65536;

@@ -6,6 +6,12 @@ ghost use Rattle.eb_session.specs.Objects.{value_of};
 ghost use Rattle.eb_session.specs.Machine.{State, step, section_bytes, section_name, is_changed, published, field_set, answered};
 ghost use Rattle.eb_session.specs.Opening.{objects_of, opened, OpensAs};
 
+use crate::errors::{OpenEnd, SessionEnd};
+use crate::object_table::ObjectTable;
+use crate::plain_project::project_objects;
+use crate::replies;
+use crate::replies::Reply;
+use crate::requests::{Request, read_request};
 use eb_base::Memory;
 use eb_file::encode;
 use eb_json::document;
@@ -13,13 +19,6 @@ use eb_outside::Shelf;
 use eb_schema::Schema;
 use std::alloc::{AllocError, Global};
 use std::marker::Model;
-
-use crate::errors::{OpenEnd, SessionEnd};
-use crate::object_table::ObjectTable;
-use crate::plain_project::project_objects;
-use crate::replies;
-use crate::replies::Reply;
-use crate::requests::{Request, read_request};
 
 /// The file that a session is opened from.
 const PROJECT_FILE: &str = "project.json";

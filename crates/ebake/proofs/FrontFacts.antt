@@ -1,5 +1,5 @@
 -- What the sink holds is a front of the output.
-use Rattle.std.proofs.Common.{◌≡◌, ℕ, ◌+◌, ◌<◌, ◌≤◌, List, [], ◌∷◌, ◌++◌, length, take, drop, refl, sym, ap, ◌∙◌, subst, arith, append_assoc, append-nil}
+use Rattle.std.proofs.Common.{◌≡◌, ℕ, List, [], ◌++◌, take, drop, refl, sym, ap, ◌∙◌, subst, append_assoc, append-nil}
 use Rattle.std.specs.Prelude.{Option, None, Some, Result, Ok, Err, IsErrOf}
 use Rattle.std.proofs.lemmas.List.{take-append-drop}
 use Rattle.eb_outside.specs.Shelves.{Files}
@@ -13,7 +13,7 @@ use Rattle.ebake.specs.Progress.{whole, IsFront, GoesOn}
 use Rattle.ebake.specs.Stops.{stop_of_outside}
 use Rattle.ebake.specs.declared.stops.Stop.{Stop}
 use Rattle.ebake.specs.declared.stops.Stop.TheVariants.{Outside, Memory, Limit}
-use Rattle.ebake.specs.Told.{End, replay, session_end, planned, end_with, ended}
+use Rattle.ebake.specs.Told.{End, replay, session_end, ended}
 
 -- what is held when a session goes on is a front of its output
 pub IsFront-whole : (lines bytes : ℕ) (state : State) (line : List ℕ) (files : Option Files) (left held : Option (List ℕ)) → IsFront held (whole lines bytes state line files left held)
@@ -29,10 +29,13 @@ IsFront-take base bytes n None h = tt
 IsFront-take None bytes n (Some end) h = absurd (cc h.2)
 IsFront-take (Some base) bytes n (Some end) h =
     let same : h.0 ≡ base ++ bytes = cc h.2 in
-    let parts : bytes ≡ take n bytes ++ drop n bytes = sym (take-append-drop n bytes) in
-    (base ++ take n bytes, drop n bytes ++ h.1, refl,
+    let parts : bytes ≡ take n bytes ++ drop n bytes = sym (take-append-drop n bytes) in (
+      base ++ take n bytes,
+      drop n bytes ++ h.1,
+      refl,
       h.3 ∙ ap (λ f. f ++ h.1) (same ∙ ap (λ b. base ++ b) parts ∙ sym (append_assoc base (take n bytes) (drop n bytes)))
-      ∙ append_assoc (base ++ take n bytes) (drop n bytes) h.1)
+          ∙ append_assoc (base ++ take n bytes) (drop n bytes) h.1,
+    )
 
 -- and so is what an equal end has
 pub IsFront-same : (held : Option (List ℕ)) (a b : Option End) → a ≡ b → IsFront held b → IsFront held a

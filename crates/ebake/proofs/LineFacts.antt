@@ -1,9 +1,8 @@
 -- The plan of an input, as a reader meets it: byte by byte behind a line that isn't whole yet.
-use Rattle.std.proofs.Common.{◌≡◌, ℕ, suc, ◌+◌, ◌-◌, ◌<◌, ◌≤◌, ◌==◌, Bool, true, false, List, [], ◌∷◌, ◌++◌, length, take, refl, sym, ap, ◌∙◌, arith, nat_lt, length-append, append_assoc}
+use Rattle.std.proofs.Common.{◌≡◌, ℕ, suc, ◌+◌, ◌-◌, ◌<◌, ◌≤◌, ◌==◌, Bool, true, false, List, [], ◌∷◌, ◌++◌, length, take, refl, sym, ap, ◌∙◌, arith, nat_lt, length-append}
 use Rattle.std.proofs.Math.Seq.{take-append-add, take-append_seam, take_all}
-use Rattle.std.proofs.lemmas.Bool.{lt-ltb, le-ltb}
+use Rattle.std.proofs.lemmas.Bool.{lt-ltb}
 use Rattle.std.proofs.lemmas.Bool.Decides.{nat_tests}
-use Rattle.std.proofs.lemmas.List.{take-append-le}
 use Rattle.ebake.specs.Lines.{Pieces, led_by, with_byte, pieces, unless_empty, all_lines, Plan, plan_where, plan_of, plan}
 use Rattle.ebake.specs.Progress.{IsLine, MayCome}
 

@@ -1,15 +1,13 @@
 -- The bytes of a line that is too long don't count: no such line is a request.
-use Rattle.std.proofs.Common.{◌≡◌, ℕ, zero, suc, ◌+◌, ◌-◌, ◌<◌, ◌≤◌, ◌==◌, Bool, true, false, List, [], ◌∷◌, ◌++◌, length, take, refl, sym, ap, ◌∙◌, arith, nat_lt, nat_le, length-append, append_assoc}
+use Rattle.std.proofs.Common.{◌≡◌, ℕ, zero, suc, ◌+◌, ◌-◌, ◌<◌, ◌≤◌, Bool, true, false, List, [], ◌∷◌, ◌++◌, length, take, refl, sym, ap, ◌∙◌, arith, nat_lt, length-append}
 use Rattle.std.specs.Prelude.{None}
 use Rattle.std.proofs.Math.Seq.{take-append-add}
-use Rattle.std.proofs.lemmas.Bool.Decides.{nat_tests}
 use Rattle.eb_outside.specs.Shelves.{Files}
 use Rattle.eb_session.proofs.RequestFacts.{request_of-long}
 use Rattle.eb_session.specs.Machine.{State, Step, performed, answered}
-use Rattle.ebake.specs.Lines.{Pieces, led_by, with_byte, pieces, unless_empty, all_lines, Plan, plan_where, plan_of, plan}
+use Rattle.ebake.specs.Lines.{Pieces, led_by, with_byte, pieces, unless_empty, all_lines, plan_where, plan_of, plan}
 use Rattle.ebake.specs.Progress.{IsLine}
 use Rattle.ebake.specs.Told.{Replay, followed_by, replay, End, end_with, planned, session_end}
-use Rattle.ebake.proofs.LineFacts.{IsLine-push}
 
 answered-long : (line : List ℕ) (state : State) (files : Files) → 65536 < length line → answered line state files ≡ performed None state files
 unfolding answered

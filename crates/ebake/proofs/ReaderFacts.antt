@@ -1,6 +1,6 @@
 -- What a reader keeps while bytes come.
-use Rattle.std.proofs.Common.{◌≡◌, ℕ, zero, suc, ◌+◌, ◌-◌, ◌<◌, ◌≤◌, ◌^◌, ◌==◌, Bool, true, false, List, [], ◌∷◌, ◌++◌, length, replicate, refl, sym, ap, ◌∙◌, arith, length-append, append_assoc, append-nil, add-zero, add-one}
-use Rattle.std.specs.Prelude.{Option, None, Some, option_map, Result, Ok, take}
+use Rattle.std.proofs.Common.{◌≡◌, ℕ, zero, suc, ◌+◌, ◌-◌, ◌<◌, ◌==◌, false, List, [], ◌∷◌, ◌++◌, length, replicate, refl, sym, ap, ◌∙◌, arith, length-append, append_assoc, append-nil}
+use Rattle.std.specs.Prelude.{Option, None, Some, option_map, Ok, take}
 use Rattle.eb_outside.specs.Shelves.{Files}
 use Rattle.eb_outside.specs.Streams.{appended, TakesKnown}
 use Rattle.eb_outside.proofs.Laws.{appended-append, TakesKnown-front}
@@ -121,7 +121,7 @@ whole_of-closed reader new before after left base kept now ready some spent answ
     let long : length all ≡ length reader.line.items + reader.skipped = length-line_of reader in
     ap (λ l. whole reader.lines reader.bytes reader.session l before left (appended base kept)) (append-nil all)
     ∙ whole-closed reader.lines reader.bytes reader.session new all answers.reply before after left (appended base kept) (IsLine-line_of reader ready) (omega (arith, ready.room)) (may_some reader.lines reader.line.items ready.may some) (omega arith) spent
-        (answered-zeros reader.line.items reader.skipped reader.session before ready.skipped ∙ answers.told)
+    (answered-zeros reader.line.items reader.skipped reader.session before ready.skipped ∙ answers.told)
     ∙ ap (ended 0 after left) (appended-append base kept answers.reply ∙ ap (appended base) (sym answers.text))
 
 pub empty_of_length : (bytes : List ℕ) → length bytes ≡ 0 → bytes ≡ []

@@ -1,6 +1,6 @@
 -- The whole run by the form of its words and by what its folder holds.
-use Rattle.std.proofs.Common.{◌≡◌, ℕ, Bool, true, false, List, [], ◌∷◌, ◌++◌, refl, sym, ap, ◌∙◌, append-nil, subst}
-use Rattle.std.specs.Prelude.{Option, None, Some, IfSome, Result, Ok, Err, take}
+use Rattle.std.proofs.Common.{◌≡◌, ℕ, Bool, true, false, List, [], ◌++◌, refl, sym, ap, ◌∙◌, subst}
+use Rattle.std.specs.Prelude.{Option, None, Some, IfSome, Result, Err, take}
 use Rattle.eb_outside.specs.Shelves.{Files}
 use Rattle.eb_outside.specs.Streams.{appended}
 use Rattle.eb_session.specs.Machine.{State}

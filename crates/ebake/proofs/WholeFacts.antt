@@ -1,14 +1,14 @@
 -- How the end of a run stays the same as its input is read: line by line, and at the limits.
-use Rattle.std.proofs.Common.{◌≡◌, ℕ, suc, ◌+◌, ◌-◌, ◌<◌, ◌≤◌, ◌==◌, Bool, true, false, List, [], ◌∷◌, ◌++◌, length, take, replicate, refl, sym, ap, ◌∙◌, arith, length-append, append_assoc, append-nil}
+use Rattle.std.proofs.Common.{◌≡◌, ℕ, ◌+◌, ◌-◌, ◌<◌, ◌≤◌, List, [], ◌∷◌, ◌++◌, length, refl, sym, ap, ◌∙◌, arith, append_assoc, append-nil}
 use Rattle.std.specs.Prelude.{Option, None, Some, option_map}
 use Rattle.eb_outside.specs.Shelves.{Files}
 use Rattle.eb_outside.specs.Streams.{appended}
 use Rattle.eb_session.specs.Machine.{State, Step, step, answered}
 use Rattle.ebake.specs.Lines.{unless_empty, Plan, plan}
 use Rattle.ebake.specs.Progress.{IsLine, MayCome, IsSpent, whole}
-use Rattle.ebake.specs.Told.{Replay, followed_by, replay, End, end_with, planned, session_end, ended}
-use Rattle.ebake.proofs.LineFacts.{IsLine-push, in_front, plan-line, last_line, plan-last, at_limit, plan-out, plan-full}
-use Rattle.ebake.proofs.LongLines.{session_end-alike, answered-alike}
+use Rattle.ebake.specs.Told.{replay, End, end_with, planned, session_end, ended}
+use Rattle.ebake.proofs.LineFacts.{in_front, plan-line, plan-last, at_limit, plan-out, plan-full}
+use Rattle.ebake.proofs.LongLines.{session_end-alike}
 
 -- the end with one line answered
 answered_end : Plan → List ℕ → Step → End

@@ -1,6 +1,6 @@
 -- What is left of a run while its input is read: a reader stands behind some whole lines, and has the
 -- bytes of a line that hasn't ended.
-use Rattle.std.specs.Prelude.{◌≡◌, ℕ, ◌+◌, ◌<◌, ◌≤◌, ◌^◌, ◌==◌, ◌++◌, Bool, false, Option, None, Some, option_map, Result, Ok, Err, List, [], ◌∷◌, length, replicate, ⊤}
+use Rattle.std.specs.Prelude.{◌≡◌, ℕ, ◌+◌, ◌<◌, ◌≤◌, ◌^◌, ◌==◌, ◌++◌, false, Option, None, Some, option_map, Result, Ok, Err, List, [], ◌∷◌, length, replicate, ⊤}
 use Rattle.eb_outside.specs.Shelves.{Files}
 use Rattle.eb_session.specs.Machine.{State, step, answered}
 use Rattle.ebake.specs.Told.{End, session_end, ended}

@@ -1,5 +1,5 @@
 -- The whole run of the program: its status, its output and the files that it leaves.
-use Rattle.std.specs.Prelude.{ℕ, ◌++◌, Bool, true, false, Option, None, Some, List, [], ◌∷◌, codes}
+use Rattle.std.specs.Prelude.{ℕ, ◌++◌, Bool, true, false, Option, None, Some, List, [], ◌∷◌}
 use Rattle.eb_outside.specs.Causes.{Rose}
 use Rattle.eb_outside.specs.Shelves.{Files}
 use Rattle.eb_session.specs.Machine.{State, Step, answered}

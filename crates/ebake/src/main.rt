@@ -7,6 +7,8 @@ mod readers;
 mod runs;
 mod serving;
 mod stops;
+#[cfg(test)]
+mod tests;
 mod words;
 
 use eb_base::{Memory, Text};
@@ -34,6 +36,13 @@ fn main(rt: HostRuntime) -> ExitCode {
     let mut shelf = FolderShelf::open(&rt);
     let mut source = StdSource::open(rt.reader());
     let mut sink = StdSink::open(io::writer(&rt));
-    let status = runs::run(&rt, rt.alloc(), words.as_slice(), &mut shelf, &mut source, &mut sink);
+    let status = runs::run(
+        &rt,
+        rt.alloc(),
+        words.as_slice(),
+        &mut shelf,
+        &mut source,
+        &mut sink,
+    );
     ExitCode::from(status)
 }

@@ -6,12 +6,11 @@ ghost use Rattle.eb_outside.specs.Streams.{appended};
 ghost use Rattle.ebake.specs.Progress.{Answers, IsReady, line_of, whole_of, GoesOn, IsFront, IsSpent};
 ghost use Rattle.ebake.specs.Told.{End, ended};
 
+use crate::outlet::give_kept;
+use crate::stops::Stop;
 use eb_outside::{Shelf, Sink};
 use eb_session::Session;
 use std::alloc::AllocError;
-
-use crate::outlet::give_kept;
-use crate::stops::Stop;
 
 /// How many bytes of an unfinished line are kept: one more than a request may have.
 const MOST_KEPT_BYTES: usize = 65537;
@@ -35,7 +34,12 @@ pub struct Reader {
 }
 
 /// Answers a line, behind the replies that are kept.
-fn answer<H: Shelf>(session: &mut Session, line: &[u8], shelf: &mut H, kept: &mut Vec<u8>) -> Result<(), Stop>
+fn answer<H: Shelf>(
+    session: &mut Session,
+    line: &[u8],
+    shelf: &mut H,
+    kept: &mut Vec<u8>,
+) -> Result<(), Stop>
     requires { session.old.generation < 2 ^ 62 }
     ensures told { OnOk result (Answers line.now session.old session.new (H.files shelf.old) (H.files shelf.new) kept.old.items kept.new.items) }
     ensures count { OnOk result (session.new.generation ≤ session.old.generation + 1) }
@@ -101,7 +105,13 @@ impl Reader {
 
     /// Takes one byte: of a line, or the line feed that ends one. The replies that are kept go to the sink
     /// once there are many.
-    fn feed_byte<H: Shelf, O: Sink>(&mut self, byte: u8, shelf: &mut H, kept: &mut Vec<u8>, sink: &mut O) -> Result<(), Stop>
+    fn feed_byte<H: Shelf, O: Sink>(
+        &mut self,
+        byte: u8,
+        shelf: &mut H,
+        kept: &mut Vec<u8>,
+        sink: &mut O,
+    ) -> Result<(), Stop>
         requires ready { IsReady self.old }
         requires room { length (line_of self.old) < self.old.bytes }
         ensures ready { OnOk result (IsReady self.new) }
@@ -129,7 +139,13 @@ impl Reader {
     }
 
     /// Takes the bytes of a piece, one after the other.
-    fn feed<H: Shelf, O: Sink>(&mut self, piece: &[u8], shelf: &mut H, kept: &mut Vec<u8>, sink: &mut O) -> Result<(), Stop>
+    fn feed<H: Shelf, O: Sink>(
+        &mut self,
+        piece: &[u8],
+        shelf: &mut H,
+        kept: &mut Vec<u8>,
+        sink: &mut O,
+    ) -> Result<(), Stop>
         requires ready { IsReady self.old }
         requires room { length (line_of self.old) + length piece.now ≤ self.old.bytes }
         ensures ready { OnOk result (IsReady self.new) }
@@ -166,7 +182,13 @@ impl Reader {
     }
 
     /// Takes a piece of the input, and gives the sink the replies to all lines that end in it.
-    pub fn feed_piece<H: Shelf, O: Sink>(&mut self, piece: &[u8], shelf: &mut H, kept: &mut Vec<u8>, sink: &mut O) -> Result<(), Stop>
+    pub fn feed_piece<H: Shelf, O: Sink>(
+        &mut self,
+        piece: &[u8],
+        shelf: &mut H,
+        kept: &mut Vec<u8>,
+        sink: &mut O,
+    ) -> Result<(), Stop>
         requires ready { IsReady self.old }
         requires room { length (line_of self.old) + length piece.now ≤ self.old.bytes }
         requires none { kept.old.items ≡ [] }
@@ -186,7 +208,12 @@ impl Reader {
     }
 
     /// Answers the last line, and gives the sink its reply.
-    pub fn close<H: Shelf, O: Sink>(&mut self, shelf: &mut H, kept: &mut Vec<u8>, sink: &mut O) -> Result<(), Stop>
+    pub fn close<H: Shelf, O: Sink>(
+        &mut self,
+        shelf: &mut H,
+        kept: &mut Vec<u8>,
+        sink: &mut O,
+    ) -> Result<(), Stop>
         requires ready { IsReady self.old }
         requires none { kept.old.items ≡ [] }
         ensures told { (left : Option (List ℕ)) → IsSpent left → GoesOn result

@@ -5,21 +5,27 @@ ghost use Rattle.ebake.specs.Words.{is_form};
 ghost use Rattle.ebake.specs.Told.{told, ended, IsFaultless};
 ghost use Rattle.ebake.specs.Progress.{whole, IsFront, Follows};
 
-use eb_base::Text;
-use eb_outside::{OutsideError, Shelf, Sink, Source};
-use eb_session::{OpenEnd, Session};
-use std::alloc::Global;
-use std::thread::Threads;
-
 use crate::limits::Limits;
 use crate::outlet::give_all;
 use crate::readers::Reader;
 use crate::serving::serve;
 use crate::stops::Stop;
 use crate::words::{is_session, usage};
+use eb_base::Text;
+use eb_outside::{OutsideError, Shelf, Sink, Source};
+use eb_session::{OpenEnd, Session};
+use std::alloc::Global;
+use std::thread::Threads;
 
 /// Answers the lines of the source in a session that is open.
-fn answer_lines<H: Shelf, I: Source, O: Sink>(alloc: Global, limits: &Limits, session: Session, shelf: &mut H, source: &mut I, sink: &mut O) -> Result<u8, Stop>
+fn answer_lines<H: Shelf, I: Source, O: Sink>(
+    alloc: Global,
+    limits: &Limits,
+    session: Session,
+    shelf: &mut H,
+    source: &mut I,
+    sink: &mut O,
+) -> Result<u8, Stop>
     requires { session.generation ≡ 0 }
     ensures told { Follows result
         (whole limits.now.lines limits.now.bytes session [] (H.files shelf.old) (I.left source.old) (O.put sink.old))
@@ -42,7 +48,14 @@ fn answer_lines<H: Shelf, I: Source, O: Sink>(alloc: Global, limits: &Limits, se
 }
 
 /// The status of the words' run, or why it stopped.
-fn outcome<H: Shelf, I: Source, O: Sink>(alloc: Global, limits: &Limits, words: &[Text], shelf: &mut H, source: &mut I, sink: &mut O) -> Result<u8, Stop>
+fn outcome<H: Shelf, I: Source, O: Sink>(
+    alloc: Global,
+    limits: &Limits,
+    words: &[Text],
+    shelf: &mut H,
+    source: &mut I,
+    sink: &mut O,
+) -> Result<u8, Stop>
     ensures told { Follows result
         (told limits.now.lines limits.now.bytes words.now (H.files shelf.old) (I.left source.old) (O.put sink.old))
         (H.files shelf.new) (I.left source.new) (O.put sink.new) }
@@ -70,7 +83,15 @@ fn outcome<H: Shelf, I: Source, O: Sink>(alloc: Global, limits: &Limits, words: 
 }
 
 /// Runs the program on the words behind its name, within limits, and answers its status.
-pub fn run_within<T: Threads + Sync, H: Shelf, I: Source, O: Sink>(_rt: &T, alloc: Global, limits: &Limits, words: &[Text], shelf: &mut H, source: &mut I, sink: &mut O) -> u8
+pub fn run_within<T: Threads + Sync, H: Shelf, I: Source, O: Sink>(
+    _rt: &T,
+    alloc: Global,
+    limits: &Limits,
+    words: &[Text],
+    shelf: &mut H,
+    source: &mut I,
+    sink: &mut O,
+) -> u8
     ensures headline { IsFaultless (H.faults shelf.old) (H.faults shelf.new) (I.faults source.old) (I.faults source.new) (O.faults sink.old) (O.faults sink.new) → result ≢ 4 →
         told limits.now.lines limits.now.bytes words.now (H.files shelf.old) (I.left source.old) (O.put sink.old)
         ≡ ended result (H.files shelf.new) (I.left source.new) (O.put sink.new) }
@@ -94,7 +115,14 @@ pub fn run_within<T: Threads + Sync, H: Shelf, I: Source, O: Sink>(_rt: &T, allo
 
 /// Runs the program on the words behind its name, and answers its status: 0 done, 1 a counted fault of the
 /// outside, 2 words that are no form, 3 a refused folder, 4 want of memory, 5 a limit.
-pub fn run<T: Threads + Sync, H: Shelf, I: Source, O: Sink>(rt: &T, alloc: Global, words: &[Text], shelf: &mut H, source: &mut I, sink: &mut O) -> u8
+pub fn run<T: Threads + Sync, H: Shelf, I: Source, O: Sink>(
+    rt: &T,
+    alloc: Global,
+    words: &[Text],
+    shelf: &mut H,
+    source: &mut I,
+    sink: &mut O,
+) -> u8
     ensures headline { IsFaultless (H.faults shelf.old) (H.faults shelf.new) (I.faults source.old) (I.faults source.new) (O.faults sink.old) (O.faults sink.new) → result ≢ 4 →
         told (2 ^ 32 - 1) (2 ^ 40) words.now (H.files shelf.old) (I.left source.old) (O.put sink.old)
         ≡ ended result (H.files shelf.new) (I.left source.new) (O.put sink.new) }

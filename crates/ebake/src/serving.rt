@@ -5,11 +5,10 @@ ghost use Rattle.eb_outside.specs.Streams.{TakesKnown};
 ghost use Rattle.ebake.specs.Progress.{IsReady, whole_of, GoesOn};
 ghost use Rattle.ebake.specs.Told.{ended};
 
-use eb_outside::{Fault, Shelf, Sink, Source};
-use std::alloc::Global;
-
 use crate::readers::Reader;
 use crate::stops::Stop;
+use eb_outside::{Fault, Shelf, Sink, Source};
+use std::alloc::Global;
 
 /// How many bytes are taken from a source at a time.
 const PIECE_BYTES: usize = 4096;
@@ -27,7 +26,13 @@ fn take_piece<I: Source>(source: &mut I, buffer: &mut [u8], most: usize) -> Resu
 }
 
 /// Answers all lines of the source. All replies to what was taken are given to the sink before more is taken.
-pub fn serve<H: Shelf, I: Source, O: Sink>(alloc: Global, reader: &mut Reader, shelf: &mut H, source: &mut I, sink: &mut O) -> Result<(), Stop>
+pub fn serve<H: Shelf, I: Source, O: Sink>(
+    alloc: Global,
+    reader: &mut Reader,
+    shelf: &mut H,
+    source: &mut I,
+    sink: &mut O,
+) -> Result<(), Stop>
     requires { IsReady reader.old }
     ensures told { GoesOn result
         (whole_of reader.old [] (H.files shelf.old) (I.left source.old) (O.put sink.old))

@@ -1,8 +1,8 @@
-use Rattle.std.proofs.Common.{◌≡◌, ℕ, [], ap, sym, ◌∙◌, true, false, arith}
+use Rattle.std.proofs.Common.{◌≡◌, [], ap, sym, ◌∙◌, true, false, arith}
 use Rattle.std.proofs.lemmas.Result.{err_from_is_err_and}
 use Rattle.eb_outside.specs.Streams.{appended}
 use Rattle.ebake.specs.Told.{told, ended}
-use Rattle.ebake.specs.Words.{usage_text, is_form}
+use Rattle.ebake.specs.Words.{is_form}
 use Rattle.ebake.specs.Progress.{whole}
 use Rattle.ebake.proofs.ToldFacts.{told-no_form, told-refused, told-opened, IsFront-told, Follows-given, Follows-same}
 use Rattle.ebake.proofs.runs.outcome.Goals as goal
@@ -16,7 +16,7 @@ returns-in_err-give_all-clause-told g c =
     let form : is_form c.args.words.now ≡ false = grind arith in
     let same = told-no_form c.args.limits.now.lines c.args.limits.now.bytes c.args.words.now files left base form ∙ ap (λ t. ended 2 files left (appended base t)) (sym c.usage.ensures) in
     rw (p.1, p.2) (Follows-given c.in_err-give_all.field-0.0 2 c.in_err-give_all.ensures.front.0 c.usage.result.now (told c.args.limits.now.lines c.args.limits.now.bytes c.args.words.now files left base) files files left base (g.O.Sink.put c.give_all.new.sink)
-        same c.in_err-give_all.ensures.front.1)
+    same c.in_err-give_all.ensures.front.1)
 
 pub returns-then-not-is_session-clause-told : goal.returns-then-not-is_session-clause-told
 returns-then-not-is_session-clause-told g c =
@@ -40,7 +40,7 @@ returns-in_err-give_all-in-Err-Refused-clause-told g c =
     let said : c.bytes.result.now ≡ c.in-Err-Refused.line = c.bytes.ensures ∙ c.in-Err-Refused.line-is in
     let same = told-refused lines bytes c.args.words.now c.in-Err-Refused.line files left base form refused ∙ ap (λ t. ended 3 files left (appended base t)) (sym said) in
     rw (p.1, p.2) (Follows-given c.in_err-give_all-in-Err-Refused.field-0.0 3 c.in_err-give_all-in-Err-Refused.ensures.front.0 c.bytes.result.now (told lines bytes c.args.words.now files left base)
-        files (g.H.Shelf.files c.open.new.shelf) left base (g.O.Sink.put c.give_all-in-Err-Refused.new.sink) same c.in_err-give_all-in-Err-Refused.ensures.front.1)
+    files (g.H.Shelf.files c.open.new.shelf) left base (g.O.Sink.put c.give_all-in-Err-Refused.new.sink) same c.in_err-give_all-in-Err-Refused.ensures.front.1)
 
 pub returns-in-Ok-clause-told : goal.returns-in-Ok-clause-told
 returns-in-Ok-clause-told g c =
@@ -52,7 +52,7 @@ returns-in-Ok-clause-told g c =
     let form : is_form c.args.words.now ≡ true = grind arith in
     let same = told-opened lines bytes c.args.words.now c.in-Ok.session files left base form c.in-Ok.ensures.opened ∙ ap (λ f. whole lines bytes c.in-Ok.session [] f left base) (sym c.in-Ok.ensures.files) in
     Follows-same c.answer_lines.result (told lines bytes c.args.words.now files left base) (whole lines bytes c.in-Ok.session [] (g.H.Shelf.files c.open.new.shelf) left base)
-        (g.H.Shelf.files c.answer_lines.new.shelf) (g.I.Source.left c.answer_lines.new.source) (g.O.Sink.put c.answer_lines.new.sink) same c.answer_lines.ensures.told
+    (g.H.Shelf.files c.answer_lines.new.shelf) (g.I.Source.left c.answer_lines.new.source) (g.O.Sink.put c.answer_lines.new.sink) same c.answer_lines.ensures.told
 
 pub returns-in_ok-give_all-in-Err-Refused-clause-told : goal.returns-in_ok-give_all-in-Err-Refused-clause-told
 returns-in_ok-give_all-in-Err-Refused-clause-told g c =

@@ -1,4 +1,4 @@
-use Rattle.std.proofs.Common.{◌≡◌, ℕ, ◌+◌, ◌++◌, ◌<◌, [], List, take, length, ap, ◌∙◌, arith}
+use Rattle.std.proofs.Common.{◌++◌, ◌<◌, [], take, length, ◌∙◌, arith}
 use Rattle.std.proofs.lemmas.List.{length-take}
 use Rattle.std.proofs.lemmas.Result.{err_from_is_err_and}
 use Rattle.eb_outside.specs.declared.errors.Fault.{Fault}
@@ -41,6 +41,6 @@ returns-in_err-feed_piece-clause-told g c =
     let buffer = c.take_piece.new.buffer in
     let same = c.pieces.invariant.told ∙ whole_of-taken Fault reader files (g.I.Source.left c.pieces.source) left held c.in_ok-count.count buffer c.in_ok-count.ensures.bytes in
     rw (p.1, p.2) (GoesOn-before (Unit {0}) (Unit {0}) c.in_err-feed_piece.field-0.0
-        (whole_of c.args.reader.now [] (g.H.Shelf.files c.args.shelf.now) (g.I.Source.left c.args.source.now) (g.O.Sink.put c.args.sink.now))
-        (whole_of reader (take c.in_ok-count.count buffer) files left held) (whole_of c.feed_piece.new.self [] later left now) (ended 0 later left now) later left now
-        same (c.in_err-feed_piece.ensures.told left))
+    (whole_of c.args.reader.now [] (g.H.Shelf.files c.args.shelf.now) (g.I.Source.left c.args.source.now) (g.O.Sink.put c.args.sink.now))
+    (whole_of reader (take c.in_ok-count.count buffer) files left held) (whole_of c.feed_piece.new.self [] later left now) (ended 0 later left now) later left now
+    same (c.in_err-feed_piece.ensures.told left))

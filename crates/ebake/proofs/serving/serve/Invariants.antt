@@ -1,4 +1,4 @@
-use Rattle.std.proofs.Common.{◌≡◌, ◌≤◌, ◌+◌, ◌-◌, [], length}
+use Rattle.std.proofs.Common.{◌≡◌, ◌≤◌, ◌-◌, [], length}
 use Rattle.ebake.specs.Progress.{IsReady, line_of, whole_of}
 use Rattle.ebake.proofs.serving.serve.Given as goal
 

@@ -1,4 +1,3 @@
-use Rattle.std.proofs.Common.{rules, ap, ◌∙◌, sym, subst}
 use Rattle.eb_session.proofs.SceneFacts.{IsValid-image_of, IsPlain-image_of}
 use Rattle.eb_session.proofs.object_table.ObjectTable.image.Goals as goal
 

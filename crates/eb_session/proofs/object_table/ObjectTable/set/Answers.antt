@@ -1,5 +1,5 @@
 use Rattle.std.proofs.lemmas.Int.{ints}
-use Rattle.std.proofs.Common.{arith, rules, ap, ◌∙◌, is_some}
+use Rattle.std.proofs.Common.{arith, rules}
 use Rattle.eb_session.proofs.SceneFacts.{IsScene-set}
 use Rattle.eb_session.proofs.object_table.ObjectTable.set.Goals as goal
 

@@ -1,5 +1,4 @@
-use Rattle.std.proofs.Common.{◌≡◌, ℕ, ◌+◌, arith, ap, sym, ◌∙◌, length}
-use Rattle.eb_outside.specs.Streams.{appended}
+use Rattle.std.proofs.Common.{◌≡◌, ◌+◌, arith, length}
 use Rattle.ebake.specs.Progress.{line_of}
 use Rattle.ebake.proofs.ReaderFacts.{length-line_of, whole_of-ended}
 use Rattle.ebake.proofs.readers.Reader.end_line.Goals as goal

@@ -1,4 +1,4 @@
-use Rattle.std.proofs.Common.{◌≡◌, ◌≤◌, ◌+◌, List, [], ℕ, drop, length}
+use Rattle.std.proofs.Common.{◌≡◌, ◌≤◌, ◌+◌, List, ℕ, drop, length}
 use Rattle.std.specs.Prelude.{Option}
 use Rattle.eb_outside.specs.Streams.{appended}
 use Rattle.ebake.specs.Progress.{IsReady, line_of, whole_of}

@@ -1,4 +1,4 @@
-use Rattle.std.proofs.Common.{◌≡◌, ℕ, List, [], ◌++◌, ap, ◌∙◌, subst, sym}
+use Rattle.std.proofs.Common.{◌≡◌, ℕ, List, [], ◌++◌, ap, ◌∙◌, subst}
 use Rattle.std.specs.Prelude.{Option}
 use Rattle.eb_outside.specs.Streams.{appended}
 use Rattle.eb_outside.proofs.Laws.{appended-nil}
@@ -16,5 +16,5 @@ returns-clause-told g c left =
     let after : Option (List ℕ) → Option End = λ held. whole_of reader [] files left held in
     let none : appended put c.args.kept.now.items ≡ put = ap (appended put) c.requires.none ∙ appended-nil put in
     subst (λ h. GoesOn c.give_then.result (before h) (after (g.O.Sink.put c.give_then.new.sink)) files left (g.O.Sink.put c.give_then.new.sink)) none
-        (c.give_then.ensures.told (before (appended put c.args.kept.now.items)) after files left
-            (λ held. IsFront-whole reader.lines reader.bytes reader.session (line_of reader ++ []) files left held) (c.feed-fed.ensures.told left))
+    (c.give_then.ensures.told (before (appended put c.args.kept.now.items)) after files left
+    (λ held. IsFront-whole reader.lines reader.bytes reader.session (line_of reader ++ []) files left held) (c.feed-fed.ensures.told left))

@@ -1,4 +1,4 @@
-use Rattle.std.proofs.Common.{◌≡◌, ℕ, arith, ◌<◌, ◌++◌, [], length, rules}
+use Rattle.std.proofs.Common.{◌≡◌, arith, ◌<◌, ◌++◌, [], length}
 use Rattle.std.proofs.lemmas.Result.{err_from_is_err_and}
 use Rattle.std.proofs.lemmas.Bool.Decides.{nat_tests}
 use Rattle.eb_outside.specs.Streams.{appended}
@@ -21,7 +21,7 @@ returns-in_err-answer-clause-told g c left base spent =
     let held = appended base c.args.kept.now.items in
     let now = g.H.Shelf.files c.answer.new.shelf in
     rw (p.1, p.2, c.in_err-answer.ensures.err) (GoesOn-stopped c.in_err-answer.field-0.0 (whole_of reader [] files left held) (ended 0 now left held) now left held c.in_err-answer.ensures.no_limit
-        (IsFront-whole reader.lines reader.bytes reader.session (line_of reader ++ []) files left held))
+    (IsFront-whole reader.lines reader.bytes reader.session (line_of reader ++ []) files left held))
 
 pub returns-clause-told : goal.returns-clause-told
 returns-clause-told g c left base spent =

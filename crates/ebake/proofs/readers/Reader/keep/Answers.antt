@@ -1,4 +1,4 @@
-use Rattle.std.proofs.Common.{◌≡◌, ℕ, ◌+◌, ◌<◌, arith, length, length-append, ap, ◌∙◌, [], ◌∷◌, ◌++◌}
+use Rattle.std.proofs.Common.{◌≡◌, ◌+◌, arith, length, length-append, ap, ◌∙◌, [], ◌∷◌}
 use Rattle.ebake.specs.Progress.{line_of}
 use Rattle.ebake.proofs.LineFacts.{IsLine-push}
 use Rattle.ebake.proofs.ReaderFacts.{MayCome-some, length-line_of, whole_of-skipped}
