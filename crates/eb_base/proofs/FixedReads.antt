@@ -1,5 +1,5 @@
--- Reading and printing fixed text: room for the digits, and one digit of a fraction at a time.
-use Rattle.std.proofs.Common.{◌≡◌, ℕ, zero, suc, ◌+◌, ◌-◌, ◌*◌, ◌/◌, ◌%◌, ◌^◌, ◌<◌, ◌≤◌, Bool, true, false, cond, ◌&&◌, nat_lt, List, [], ◌∷◌, ◌++◌, length, take, drop, refl, sym, ◌∙◌, ap, subst, arith, add-one, lit<}
+-- Reading fixed text: room for the digits, and the two parts.
+use Rattle.std.proofs.Common.{◌≡◌, ℕ, ◌+◌, ◌-◌, ◌*◌, ◌^◌, ◌<◌, ◌≤◌, Bool, true, false, cond, ◌&&◌, List, [], ◌∷◌, ◌++◌, length, take, drop, refl, sym, ◌∙◌, ap, subst, arith, add-one, lit<}
 use Rattle.std.specs.Prelude.{Option, Some, None, option_and_then, IfSome}
 use Rattle.std.specs.Char.{is_ascii_digit}
 use Rattle.std.specs.Str.{all_ascii_digits}
@@ -8,7 +8,7 @@ use Rattle.std.proofs.lemmas.Bool.{lt-ltb}
 use Rattle.std.proofs.lemmas.Bool.Decides.{nat_tests}
 use Rattle.std.proofs.lemmas.List.{take_rest}
 use Rattle.eb_base.specs.Digits.{value_after, digits_after, below, point_in}
-use Rattle.eb_base.specs.FixedPoint.{fixed_at, with_point, fraction_digits}
+use Rattle.eb_base.specs.FixedPoint.{fixed_at, with_point}
 
 -- ---- room
 
@@ -90,18 +90,3 @@ both_room (Some m) n ds small few h = both_bound n m ds small few h
 pub point_found : (negative : Bool) (text : List ℕ) (at : ℕ) → Some at ≡ point_in text → with_point negative (take at text) (take (length text - (at + 1)) (drop (at + 1) text)) ≡ fixed_at negative text (point_in text)
 point_found negative text at found =
     ap (with_point negative (take at text)) (take_rest text (at + 1) ∙ ap (λ k. drop k text) (add-one at)) ∙ ap (fixed_at negative text) found
-
--- ---- the digits of a fraction
-
-pub fraction_done : (k : ℕ) → fraction_digits k 0 ≡ []
-fraction_done zero = refl
-fraction_done (suc k) = refl
-
-pub fraction_cut : (r : ℕ) → fraction_digits 0 r ≡ []
-fraction_cut zero = refl
-fraction_cut (suc r) = refl
-
-pub fraction_step : (k j r : ℕ) → k ≡ j + 1 → 0 < r → fraction_digits k r ≡ (48 + r * 10 / 65536) ∷ fraction_digits j (r * 10 % 65536)
-fraction_step zero j r e h = absurd (omega arith)
-fraction_step (suc k) j zero e h = absurd (omega arith)
-fraction_step (suc k) j (suc r) e h = let same : k ≡ j = omega arith in ap (λ i. (48 + suc r * 10 / 65536) ∷ fraction_digits i (suc r * 10 % 65536)) same

@@ -1,11 +1,11 @@
 -- Names read back, and a text that is read is that of the name.
-use Rattle.std.proofs.Common.{◌≡◌, ℕ, suc, Bool, true, false, cond, ◌==◌, subst, ◌+◌, ◌-◌, ◌<◌, ◌≤◌, ◌^◌, List, [], ◌∷◌, ◌++◌, length, take, drop, decimal, refl, sym, ◌∙◌, ap, arith, add-one}
+use Rattle.std.proofs.Common.{◌≡◌, ℕ, suc, Bool, true, false, cond, ◌==◌, subst, ◌+◌, ◌-◌, ◌<◌, ◌^◌, List, [], ◌∷◌, ◌++◌, length, take, drop, decimal, refl, ◌∙◌, ap, arith, add-one}
 use Rattle.std.specs.Prelude.{Option, Some, None, option_map, option_and_then}
 use Rattle.std.proofs.Math.Seq.{take-append_seam}
 use Rattle.std.proofs.lemmas.Bool.Decides.{nat_tests}
 use Rattle.std.proofs.lemmas.List.{take_rest}
 use Rattle.std.proofs.lemmas.Fmt.{digits_decimal}
-use Rattle.eb_base.specs.Digits.{point_in, number_below}
+use Rattle.eb_base.specs.Digits.{point_in}
 use Rattle.eb_base.specs.Names.{IsName, name_text, part, part_at, first_part, name_of}
 use Rattle.eb_base.specs.declared.names.Name.{Name}
 use Rattle.eb_base.proofs.Printed.{numerals, point_behind, drop_behind, number_below-decimal, decimal-number_below}

@@ -2,5 +2,7 @@
 pub mod Arithmetic
 pub mod Digits
 pub mod FixedPoint
+pub mod Maps
 pub mod Names
+pub mod Places
 pub mod TypeNames

@@ -1,5 +1,5 @@
 -- The order of names, and their text: four numbers joined by points.
-use Rattle.std.specs.Prelude.{◌≡◌, ℕ, suc, ◌<◌, ◌^◌, take, drop, List, ◌∷◌, ◌++◌, Option, Some, None, option_map, option_and_then, decimal, refl}
+use Rattle.std.specs.Prelude.{ℕ, suc, ◌<◌, ◌^◌, take, drop, List, ◌∷◌, ◌++◌, Option, Some, None, option_map, option_and_then, decimal, refl}
 use Rattle.std.specs.Ordering.{nat_cmp, ordering_then}
 use Rattle.std.specs.declared.cmp.Ordering.{Ordering}
 use Rattle.std.specs.Coded.{Coded, code_by, coded×, coded_ℕ}

@@ -1,6 +1,6 @@
 // Arithmetic of the rule language on whole and fixed numbers: exact, or a named fault.
-ghost use Rattle.std.specs.Prelude.{◌≡◌, ◌≢◌, ◌<◌, ◌^◌, ◌*ℤ◌, pos, unsigned_abs};
-ghost use Rattle.eb_base.specs.Arithmetic.{fitting, floor_quotient, sum_of, difference_of, product_of, quotient_of, fixed_product_of, fixed_quotient_of};
+ghost use Rattle.std.specs.Prelude.{◌≡◌, ◌≢◌, ◌<◌, ◌^◌, ℕ, ℤ, ◌+ℤ◌, ◌*ℤ◌, ◌≤ℤ◌, ◌<ℤ◌, neg_ℤ, pos, unsigned_abs};
+ghost use Rattle.eb_base.specs.Arithmetic.{fitting, floor_quotient, over, sum_of, difference_of, product_of, quotient_of, fixed_product_of, fixed_quotient_of};
 
 /// How many units a fixed number's 1 has: a fixed number is a count of 65536ths.
 pub const UNITS: i128 = 65536;
@@ -43,10 +43,7 @@ impl Calc {
     pub fn div(a: i64, b: i64) -> Result<i64, CalcFault>
         ensures { result ≡ quotient_of a b }
     {
-        if b == 0 {
-            return Err(CalcFault::DivZero);
-        }
-        fit(floor(a as i128, b as i128))
+        quotient(a as i128, b)
     }
 
     /// The product of two fixed numbers, the floor of a * b / 65536 units. The fault is Overflow.
@@ -60,11 +57,19 @@ impl Calc {
     pub fn fdiv(a: i64, b: i64) -> Result<i64, CalcFault>
         ensures { result ≡ fixed_quotient_of a b }
     {
-        if b == 0 {
-            return Err(CalcFault::DivZero);
-        }
-        fit(floor(a as i128 * UNITS, b as i128))
+        quotient(a as i128 * UNITS, b)
     }
+}
+
+// The floor of a / b, or the fault.
+fn quotient(a: i128, b: i64) -> Result<i64, CalcFault>
+    requires { unsigned_abs a < 2 ^ 127 }
+    ensures { result ≡ over b (floor_quotient a b) }
+{
+    if b == 0 {
+        return Err(CalcFault::DivZero);
+    }
+    fit(floor(a, b as i128))
 }
 
 // The value, or Overflow.
@@ -98,3 +103,11 @@ pub(crate) fn floor(a: i128, b: i128) -> i128
         (-a).div_euclid(-b)
     }
 }
+
+/// The law that the quotients of the definitions are floors: q = floor_quotient a b has q * b <= a < q * b + b where b is
+/// above 0, and is that of -a and -b where b is below.
+pub fn floors_are_exact()
+    ensures low { (a : ℤ) (b : ℕ) → 0 < b → (floor_quotient a (pos b) *ℤ pos b) ≤ℤ a }
+    ensures high { (a : ℤ) (b : ℕ) → 0 < b → a <ℤ (floor_quotient a (pos b) *ℤ pos b +ℤ pos b) }
+    ensures negative { (a : ℤ) (b : ℕ) → 0 < b → floor_quotient a (neg_ℤ (pos b)) ≡ floor_quotient (neg_ℤ a) (pos b) }
+{}

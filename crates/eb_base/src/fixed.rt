@@ -1,6 +1,7 @@
 // Fixed text: decimal numbers for whole numbers of 65536ths.
-ghost use Rattle.std.specs.Prelude.{◌≡◌, ◌+◌, ◌*◌, ◌<◌, ◌≤◌, ◌^◌, ◌++◌, length, IfOk, IfSome, OnOk};
-ghost use Rattle.eb_base.specs.Digits.{digits_after, point_in};
+ghost use Rattle.std.specs.Prelude.{◌≡◌, ℕ, ℤ, true, ◌+◌, ◌*◌, ◌<◌, ◌≤◌, ◌^◌, ◌++◌, ◌-◌, ◌≢◌, slice_index, length, IfOk, IfSome, OnOk};
+ghost use Rattle.eb_base.specs.Arithmetic.{fits_i64};
+ghost use Rattle.eb_base.specs.Digits.{digits_after, point_in, value_after};
 ghost use Rattle.eb_base.specs.FixedPoint.{fixed_at, fixed_from, fixed_of, fixed_text, fraction_digits, fraction_text, in_i64, units_of, with_point};
 
 use crate::calc::floor;
@@ -135,3 +136,11 @@ fn places_write(out: &mut Vec<u8>, fraction: u32) -> Result<(), Memory>
     }
     Ok(())
 }
+
+/// The law that the fixed text of each value of `i64` reads back as that value, and that the digits of a fraction are its
+/// own: as a number behind the point they are fraction / 65536, and the last of them isn't 0.
+pub fn fixed_text_reads_back()
+    ensures back { (units : ℤ) → fits_i64 units ≡ true → fixed_of (fixed_text units) ≡ Some units }
+    ensures exact { (fraction : ℕ) → fraction < 65536 → value_after 0 (fraction_digits 16 fraction) * 65536 ≡ fraction * 10 ^ length (fraction_digits 16 fraction) }
+    ensures ends { (fraction : ℕ) → fraction < 65536 → 0 < length (fraction_digits 16 fraction) → slice_index (fraction_digits 16 fraction) (length (fraction_digits 16 fraction) - 1) ≢ 48 }
+{}

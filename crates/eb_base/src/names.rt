@@ -1,6 +1,9 @@
 // The names of entities, the places of sections, and the handle of a living entity.
 ghost use Rattle.std.specs.Prelude.{◌≡◌, ℕ, List, option_map, IfOk};
-ghost use Rattle.eb_base.specs.Names.{IsName, name_of, name_text, part, first_part};
+ghost use Rattle.std.specs.Cmp.{IsTotalOrder};
+ghost use Rattle.std.specs.declared.cmp.Ordering.TheVariants.{Equal};
+ghost use Rattle.eb_base.specs.Places.{place_cmp};
+ghost use Rattle.eb_base.specs.Names.{IsName, name_cmp, name_of, name_text, part, first_part};
 
 use crate::digits::{number_read, point_place};
 use crate::memory::Memory;
@@ -103,4 +106,12 @@ pub fn names_read_back()
     ensures back { (name : Name) → IsName name → name_of (name_text name) ≡ Some name }
     ensures exact { (text : List ℕ) (name : Name) → name_of text ≡ Some name → text ≡ name_text name }
     ensures numbers { (text : List ℕ) (name : Name) → name_of text ≡ Some name → IsName name }
+{}
+
+/// The law that names and places are in total orders that tell all of them apart.
+pub fn orders_are_exact()
+    ensures names { IsTotalOrder name_cmp }
+    ensures same_name { (a b : Name) → name_cmp a b ≡ Equal → a ≡ b }
+    ensures places { IsTotalOrder place_cmp }
+    ensures same_place { (a b : Place) → place_cmp a b ≡ Equal → a ≡ b }
 {}

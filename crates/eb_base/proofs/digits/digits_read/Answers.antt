@@ -1,5 +1,5 @@
 -- the first digit that isn't one, or is too much, decides
-use Rattle.std.proofs.Common.{◌≡◌, suc, drop, slice_index, ap, sym, ◌∙◌, drop-cons}
+use Rattle.std.proofs.Common.{suc, drop, slice_index, ap, sym, ◌∙◌, drop-cons}
 use Rattle.eb_base.specs.Digits.{below, digits_after}
 use Rattle.eb_base.proofs.Numerals.{digit_none}
 use Rattle.eb_base.proofs.digits.digits_read.Goals as goal

@@ -1,5 +1,5 @@
 -- the digits of one part, and then those of the other
-use Rattle.std.proofs.Common.{◌≡◌, ◌∙◌, sym}
+use Rattle.std.proofs.Common.{◌∙◌, sym}
 use Rattle.eb_base.proofs.FixedReads.{both_none, both_some, both_room, whole_bound}
 use Rattle.eb_base.proofs.fixed.both_digits.Goals as goal
 

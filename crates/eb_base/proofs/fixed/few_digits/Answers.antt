@@ -1,4 +1,4 @@
-use Rattle.std.proofs.Common.{◌≡◌, ◌∙◌, sym, subst, ◌^◌, ◌*◌, ◌+◌, ◌<◌, length}
+use Rattle.std.proofs.Common.{◌∙◌, sym, subst, ◌^◌, ◌*◌, ◌+◌, ◌<◌, length}
 use Rattle.std.specs.Prelude.{IfSome}
 use Rattle.eb_base.proofs.FixedReads.{all_room, digits_bound, few_room}
 use Rattle.eb_base.proofs.fixed.few_digits.Goals as goal

@@ -1,5 +1,5 @@
 -- a power of ten isn't 0, and 10 ^ 16 has room
-use Rattle.std.proofs.Common.{◌≡◌, ◌≤◌, ◌^◌, arith, lit<}
+use Rattle.std.proofs.Common.{◌≤◌, ◌^◌, arith, lit<}
 use Rattle.std.proofs.Math.Nat.{one-le-pow, pow-le-pow_right}
 use Rattle.std.proofs.lemmas.Int.{ints}
 use Rattle.eb_base.proofs.fixed.to_units.Goals as goal

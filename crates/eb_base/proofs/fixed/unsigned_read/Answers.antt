@@ -1,4 +1,4 @@
-use Rattle.std.proofs.Common.{◌≡◌, ◌∙◌}
+use Rattle.std.proofs.Common.{◌∙◌}
 use Rattle.eb_base.proofs.FixedReads.{point_found}
 use Rattle.eb_base.proofs.fixed.unsigned_read.Goals as goal
 
