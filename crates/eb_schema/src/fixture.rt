@@ -1,38 +1,181 @@
-// A schema of fifteen component types and sixteen authoring types, as a document.
+// A schema of fifteen component types and sixteen authoring types, as the text of its document.
+use std::alloc::{AllocError, Global};
 
-/// The document.
-pub const FIXTURE: &str = r#"{
-"assets":[["power","i32"]],
-"authoring":[
-{"copy":"Value","fields":[["v","i64"]],"name":"Value","number":1},
-{"copy":"Speed","fields":[["x","fix"]],"name":"Speed","number":2},
-{"copy":null,"fields":[["a","i64"],["b","i64"]],"name":"Div","number":3},
-{"copy":null,"fields":[["hp","i64"]],"name":"Stats","number":4},
-{"copy":null,"fields":[],"name":"Wants","number":5},
-{"copy":null,"fields":[["n","i64"]],"name":"Plate","number":6},
-{"copy":null,"fields":[["n","i64"]],"name":"Shield","number":7},
-{"copy":"Link","fields":[["to","ref"]],"name":"Link","number":8},
-{"copy":"Wide1","fields":[["f0","ref"],["f1","ref"],["f2","ref"],["f3","ref"],["f4","ref"],["f5","ref"],["f6","ref"],["f7","ref"],["f8","ref"],["f9","ref"],["f10","ref"],["f11","ref"],["f12","ref"],["f13","ref"],["f14","ref"],["f15","ref"]],"name":"Wide1","number":9},
-{"copy":"Wide2","fields":[["f0","ref"],["f1","ref"],["f2","ref"],["f3","ref"],["f4","ref"],["f5","ref"],["f6","ref"],["f7","ref"],["f8","ref"],["f9","ref"],["f10","ref"],["f11","ref"],["f12","ref"],["f13","ref"],["f14","ref"],["f15","ref"]],"name":"Wide2","number":10},
-{"copy":"Wide3","fields":[["f0","i64"],["f1","i64"],["f2","i64"],["f3","i64"],["f4","i64"],["f5","i64"],["f6","i64"],["f7","i64"],["f8","i64"],["f9","i64"],["f10","i64"],["f11","i64"],["f12","i32"]],"name":"Wide3","number":11},
-{"copy":null,"fields":[["model","asset"],["rank","i32"]],"name":"Gun","number":12},
-{"copy":null,"fields":[],"name":"Nest","number":13},
-{"copy":"Flag","fields":[],"name":"Flag","number":14},
-{"copy":"Scratch","fields":[["n","i64"]],"name":"Scratch","number":15},
-{"copy":"Hidden","fields":[],"name":"Hidden","number":16}],
-"components":[
-{"fields":[["v","i64"]],"mode":"stored","name":"Value","number":1},
-{"fields":[["x","fix"]],"mode":"stored","name":"Speed","number":2},
-{"fields":[["q","i64"]],"mode":"stored","name":"Quot","number":3},
-{"fields":[["hp","i64"]],"mode":"stored","name":"Hp","number":4},
-{"fields":[["n","i64"]],"mode":"stored","name":"Armor","number":5},
-{"fields":[["to","ref"]],"mode":"stored","name":"Link","number":6},
-{"fields":[["f0","ref"],["f1","ref"],["f2","ref"],["f3","ref"],["f4","ref"],["f5","ref"],["f6","ref"],["f7","ref"],["f8","ref"],["f9","ref"],["f10","ref"],["f11","ref"],["f12","ref"],["f13","ref"],["f14","ref"],["f15","ref"]],"mode":"stored","name":"Wide1","number":7},
-{"fields":[["f0","ref"],["f1","ref"],["f2","ref"],["f3","ref"],["f4","ref"],["f5","ref"],["f6","ref"],["f7","ref"],["f8","ref"],["f9","ref"],["f10","ref"],["f11","ref"],["f12","ref"],["f13","ref"],["f14","ref"],["f15","ref"]],"mode":"stored","name":"Wide2","number":8},
-{"fields":[["f0","i64"],["f1","i64"],["f2","i64"],["f3","i64"],["f4","i64"],["f5","i64"],["f6","i64"],["f7","i64"],["f8","i64"],["f9","i64"],["f10","i64"],["f11","i64"],["f12","i32"]],"mode":"stored","name":"Wide3","number":9},
-{"fields":[["power","i32"],["rank","i32"]],"mode":"stored","name":"Gun","number":10},
-{"fields":[["rank","i64"]],"mode":"stored","name":"Total","number":11},
-{"fields":[["v","i64"]],"mode":"stored","name":"Near","number":12},
-{"fields":[],"mode":"stored","name":"Flag","number":13},
-{"fields":[["n","i64"]],"mode":"baking","name":"Scratch","number":14},
-{"fields":[],"mode":"only","name":"Hidden","number":15}]}"#;
+/// The text of the document.
+pub fn fixture_text(alloc: Global) -> Result<String, AllocError> {
+    let mut text = String::from_str(alloc, "{\"assets\":[[\"power\",\"i32\"]],\"authoring\":[")?;
+    write_types(alloc, &mut text)?;
+    Ok(text)
+}
+
+fn write_types(alloc: Global, text: &mut String) -> Result<(), AllocError> {
+    let refs = many(alloc, 16, "ref", "]")?;
+    write_wide_types(alloc, text, refs.as_str())
+}
+
+fn write_wide_types(alloc: Global, text: &mut String, refs: &str) -> Result<(), AllocError> {
+    let numbers = many(alloc, 12, "i64", ",[\"f12\",\"i32\"]]")?;
+    authoring_types(text, refs, numbers.as_str())?;
+    component_types(text, refs, numbers.as_str())
+}
+
+/// So many fields of a kind, named f0 and on, and the end of the list.
+fn many(alloc: Global, count: u32, kind: &str, end: &str) -> Result<String, AllocError> {
+    let mut text = String::from_str(alloc, "[")?;
+    for number in 0..count {
+        let comma = if number > 0 { "," } else { "" };
+        let field = format!(in alloc; "{comma}[\"f{number}\",\"{kind}\"]")?;
+        text.push_str(field.as_str())?;
+    }
+    text.push_str(end)?;
+    Ok(text)
+}
+
+/// An authoring type: a text in quotes or `null`, a list of fields, a name and a number.
+fn authoring(
+    text: &mut String,
+    copy: &str,
+    fields: &str,
+    name: &str,
+    number: &str,
+) -> Result<(), AllocError> {
+    text.push_str(if number == "1" {
+        "{\"copy\":"
+    } else {
+        ",{\"copy\":"
+    })?;
+    text.push_str(copy)?;
+    text.push_str(",\"fields\":")?;
+    text.push_str(fields)?;
+    named(text, name, number)
+}
+
+/// A component type: a list of fields, a mode, a name and a number.
+fn component(
+    text: &mut String,
+    fields: &str,
+    mode: &str,
+    name: &str,
+    number: &str,
+) -> Result<(), AllocError> {
+    text.push_str(if number == "1" {
+        "{\"fields\":"
+    } else {
+        ",{\"fields\":"
+    })?;
+    text.push_str(fields)?;
+    text.push_str(",\"mode\":\"")?;
+    text.push_str(mode)?;
+    text.push_str("\"")?;
+    named(text, name, number)
+}
+
+/// The end of a type: its name and number.
+fn named(text: &mut String, name: &str, number: &str) -> Result<(), AllocError> {
+    text.push_str(",\"name\":\"")?;
+    text.push_str(name)?;
+    text.push_str("\",\"number\":")?;
+    text.push_str(number)?;
+    text.push_str("}")
+}
+
+fn authoring_types(text: &mut String, refs: &str, numbers: &str) -> Result<(), AllocError> {
+    authoring_one(text)?;
+    authoring_two(text)?;
+    authoring_three(text)?;
+    authoring_four(text, refs, numbers)?;
+    authoring_five(text)?;
+    authoring_six(text)?;
+    text.push_str("],\"components\":[")
+}
+
+fn component_types(text: &mut String, refs: &str, numbers: &str) -> Result<(), AllocError> {
+    components_one(text)?;
+    components_two(text)?;
+    components_three(text, refs, numbers)?;
+    components_four(text)?;
+    components_five(text)?;
+    text.push_str("]}")
+}
+
+fn authoring_one(text: &mut String) -> Result<(), AllocError> {
+    authoring(text, "\"Value\"", "[[\"v\",\"i64\"]]", "Value", "1")?;
+    authoring(text, "\"Speed\"", "[[\"x\",\"fix\"]]", "Speed", "2")?;
+    authoring(
+        text,
+        "null",
+        "[[\"a\",\"i64\"],[\"b\",\"i64\"]]",
+        "Div",
+        "3",
+    )
+}
+
+fn authoring_two(text: &mut String) -> Result<(), AllocError> {
+    authoring(text, "null", "[[\"hp\",\"i64\"]]", "Stats", "4")?;
+    authoring(text, "null", "[]", "Wants", "5")?;
+    authoring(text, "null", "[[\"n\",\"i64\"]]", "Plate", "6")
+}
+
+fn authoring_three(text: &mut String) -> Result<(), AllocError> {
+    authoring(text, "null", "[[\"n\",\"i64\"]]", "Shield", "7")?;
+    authoring(text, "\"Link\"", "[[\"to\",\"ref\"]]", "Link", "8")
+}
+
+fn authoring_four(text: &mut String, refs: &str, numbers: &str) -> Result<(), AllocError> {
+    authoring(text, "\"Wide1\"", refs, "Wide1", "9")?;
+    authoring(text, "\"Wide2\"", refs, "Wide2", "10")?;
+    authoring(text, "\"Wide3\"", numbers, "Wide3", "11")
+}
+
+fn authoring_five(text: &mut String) -> Result<(), AllocError> {
+    authoring(
+        text,
+        "null",
+        "[[\"model\",\"asset\"],[\"rank\",\"i32\"]]",
+        "Gun",
+        "12",
+    )?;
+    authoring(text, "null", "[]", "Nest", "13")?;
+    authoring(text, "\"Flag\"", "[]", "Flag", "14")
+}
+
+fn authoring_six(text: &mut String) -> Result<(), AllocError> {
+    authoring(text, "\"Scratch\"", "[[\"n\",\"i64\"]]", "Scratch", "15")?;
+    authoring(text, "\"Hidden\"", "[]", "Hidden", "16")
+}
+
+fn components_one(text: &mut String) -> Result<(), AllocError> {
+    component(text, "[[\"v\",\"i64\"]]", "stored", "Value", "1")?;
+    component(text, "[[\"x\",\"fix\"]]", "stored", "Speed", "2")?;
+    component(text, "[[\"q\",\"i64\"]]", "stored", "Quot", "3")
+}
+
+fn components_two(text: &mut String) -> Result<(), AllocError> {
+    component(text, "[[\"hp\",\"i64\"]]", "stored", "Hp", "4")?;
+    component(text, "[[\"n\",\"i64\"]]", "stored", "Armor", "5")?;
+    component(text, "[[\"to\",\"ref\"]]", "stored", "Link", "6")
+}
+
+fn components_three(text: &mut String, refs: &str, numbers: &str) -> Result<(), AllocError> {
+    component(text, refs, "stored", "Wide1", "7")?;
+    component(text, refs, "stored", "Wide2", "8")?;
+    component(text, numbers, "stored", "Wide3", "9")
+}
+
+fn components_four(text: &mut String) -> Result<(), AllocError> {
+    component(
+        text,
+        "[[\"power\",\"i32\"],[\"rank\",\"i32\"]]",
+        "stored",
+        "Gun",
+        "10",
+    )?;
+    component(text, "[[\"rank\",\"i64\"]]", "stored", "Total", "11")?;
+    component(text, "[[\"v\",\"i64\"]]", "stored", "Near", "12")
+}
+
+fn components_five(text: &mut String) -> Result<(), AllocError> {
+    component(text, "[]", "stored", "Flag", "13")?;
+    component(text, "[[\"n\",\"i64\"]]", "baking", "Scratch", "14")?;
+    component(text, "[]", "only", "Hidden", "15")
+}

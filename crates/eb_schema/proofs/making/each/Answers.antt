@@ -1,4 +1,3 @@
-use Rattle.std.proofs.Common.{ap, ◌∙◌}
 use Rattle.std.proofs.lemmas.Result.{err_from_is_err_and}
 use Rattle.eb_schema.proofs.MakingFacts.{goes_on, stops, ends}
 use Rattle.eb_schema.proofs.making.each.Goals as goal
