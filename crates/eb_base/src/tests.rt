@@ -3,8 +3,8 @@ ghost use Rattle.std.specs.Prelude.{◌≡◌, ◌+◌, ◌<◌};
 ghost use Rattle.eb_base.specs.Places.{place_cmp};
 
 use super::{
-    Calc, CalcFault, Items, Name, NameMap, Place, Steps, Text, ascends, fix_read, fix_write,
-    is_name, name_read, name_write, number_read,
+    Calc, CalcFault, Items, Name, NameMap, Place, Reserved, Steps, Text, ascends, fix_read,
+    fix_write, is_name, name_read, name_write, number_read,
 };
 use std::alloc::AllocGlobal;
 use std::cmp::Ordering;
@@ -266,5 +266,18 @@ fn places_and_texts(rt: HostRuntime) -> Result<(), Fail> {
     let text = Text::of(rt.alloc(), b"abc")?;
     let same = text.copy(rt.alloc())?;
     assert!(rt; same.is(b"abc") && !same.is(b"ab"));
+    Ok(())
+}
+
+#[test]
+fn a_list_with_room(rt: HostRuntime) -> Result<(), Fail> {
+    let mut list = Items::new(rt.alloc());
+    list.push(1u8)?;
+    let mut reserved = Reserved::with_room(list, 2).ok().ok_or("no memory")?;
+    assert!(rt; reserved.room() >= 2);
+    reserved.push(2);
+    reserved.push(3);
+    assert_eq!(rt; reserved.items(), [1, 2, 3].as_slice());
+    assert_eq!(rt; reserved.into_items().len(), 3);
     Ok(())
 }
