@@ -12,7 +12,7 @@ use crate::serving::serve;
 use crate::stops::Stop;
 use crate::words::{is_session, usage};
 use eb_base::Text;
-use eb_outside::{OutsideError, Shelf, Sink, Source};
+use eb_outside::{Shelf, Sink, Source};
 use eb_session::{OpenEnd, Session};
 use std::alloc::Global;
 use std::thread::Threads;
