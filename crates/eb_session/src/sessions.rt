@@ -5,6 +5,8 @@ ghost use Rattle.eb_outside.specs.Shelves.{Files};
 ghost use Rattle.eb_session.specs.Objects.{value_of};
 ghost use Rattle.eb_session.specs.Machine.{State, step, section_bytes, section_name, is_changed, published, field_set, answered};
 ghost use Rattle.eb_session.specs.Opening.{objects_of, opened, OpensAs};
+ghost use Rattle.eb_session.specs.Requests.{request_of};
+ghost use Rattle.eb_session.specs.declared.requests.Request.TheVariants.{Publish};
 
 use crate::errors::{OpenEnd, SessionEnd};
 use crate::object_table::ObjectTable;
@@ -150,7 +152,8 @@ impl Session {
         Ok(reply)
     }
 
-    /// Answers one line, without its line feed.
+    /// Answers one line, without its line feed. The shelf can end the session where the line asks for a
+    /// publication, and nowhere else.
     #[tactic(auto, unfolding(crate::specs::Machine::answered))]
     pub fn line<H: Shelf>(&mut self, line: &[u8], shelf: &mut H) -> Result<Reply, SessionEnd>
         requires { self.old.generation < 2 ^ 62 }
@@ -158,6 +161,7 @@ impl Session {
         ensures count { OnOk result (self.new.generation ≤ self.old.generation + 1) }
         ensures later { H.faults shelf.old ≤ H.faults shelf.new }
         ensures cause { IsErrOf result SessionEnd.Shelf → Rose (H.faults shelf.old) (H.faults shelf.new) }
+        ensures publishes { IsErrOf result SessionEnd.Shelf → request_of line.now ≡ Some Publish }
     {
         match read_request(self.alloc, line)? {
             Some(Request::Publish) => self.publish(shelf),

@@ -1,10 +1,10 @@
 -- The plan of an input, as a reader meets it: byte by byte behind a line that isn't whole yet.
-use Rattle.std.proofs.Common.{◌≡◌, ℕ, suc, ◌+◌, ◌-◌, ◌<◌, ◌≤◌, ◌==◌, Bool, true, false, List, [], ◌∷◌, ◌++◌, length, take, refl, sym, ap, ◌∙◌, arith, nat_lt, length-append}
+use Rattle.std.proofs.Common.{◌≡◌, ℕ, suc, ◌+◌, ◌-◌, ◌<◌, ◌≤◌, ◌==◌, Bool, true, false, List, [], ◌∷◌, ◌++◌, length, take, refl, sym, ap, ◌∙◌, arith, nat_lt, length-append, append_assoc}
 use Rattle.std.proofs.Math.Seq.{take-append-add, take-append_seam, take_all}
 use Rattle.std.proofs.lemmas.Bool.{lt-ltb}
 use Rattle.std.proofs.lemmas.Bool.Decides.{nat_tests}
 use Rattle.ebake.specs.Lines.{Pieces, led_by, with_byte, pieces, unless_empty, all_lines, Plan, plan_where, plan_of, plan}
-use Rattle.ebake.specs.Progress.{IsLine, MayCome}
+use Rattle.ebake.specs.Progress.{IsLine, AreLines, with_feeds, MayCome}
 
 pub IsLine-push : (line : List ℕ) (byte : ℕ) → IsLine line → (byte == 10) ≡ false → IsLine (line ++ byte ∷ [])
 IsLine-push [] byte h e = (e, tt)
@@ -23,6 +23,21 @@ pieces-open : (line : List ℕ) → IsLine line → pieces line ≡ record { end
 pieces-open [] h = refl
 pieces-open (b ∷ bs) h =
     ap (λ t. with_byte t b (pieces bs)) h.0 ∙ ap (λ (p : Pieces). led_by b p.ended p.last) (pieces-open bs h.1)
+
+-- whole lines and then an unfinished one
+pub pieces-lines : (lines : List (List ℕ)) (line : List ℕ) → AreLines lines → IsLine line → pieces (with_feeds lines ++ line) ≡ record { ended = lines; last = line }
+pieces-lines [] line clean open_line = pieces-open line open_line
+pieces-lines (first ∷ lines) line clean open_line =
+    ap pieces (append_assoc first (10 ∷ with_feeds lines) line) ∙ pieces-line first (with_feeds lines ++ line) clean.0
+    ∙ ap (λ (p : Pieces). record { ended = first ∷ p.ended; last = p.last }) (pieces-lines lines line clean.1 open_line)
+
+pub AreLines-append : (a b : List (List ℕ)) → AreLines a → AreLines b → AreLines (a ++ b)
+AreLines-append [] b h k = k
+AreLines-append (line ∷ lines) b h k = (h.0, AreLines-append lines b h.1 k)
+
+pub with_feeds-append : (a b : List (List ℕ)) → with_feeds (a ++ b) ≡ with_feeds a ++ with_feeds b
+with_feeds-append [] b = refl
+with_feeds-append (line ∷ lines) b = ap (λ l. line ++ 10 ∷ l) (with_feeds-append lines b) ∙ sym (append_assoc line (10 ∷ with_feeds lines) (with_feeds b))
 
 plan_where-line : (over more : Bool) (lines : ℕ) (line : List ℕ) (cut : Pieces) → plan_where over more (suc lines) (record { ended = line ∷ cut.ended; last = cut.last }) ≡ in_front line (plan_where over more lines cut)
 plan_where-line true more lines line cut = refl
@@ -59,6 +74,29 @@ plan-line lines bytes line rest h room some_left =
     ∙ ap (λ over. plan_where over (nat_lt bytes (length input)) (suc fewer) whole) (less-suc fewer (length (all_lines cut)))
     ∙ ap (λ more. plan_where (nat_lt fewer (length (all_lines cut))) more (suc fewer) whole) (less-shift bytes (length input) shorter (length rest) shifted)
     ∙ plan_where-line _ _ fewer line cut
+
+-- the plan with some lines in front
+abbrev pub all_in_front : List (List ℕ) → Plan → Plan
+all_in_front lines p = record { lines = lines ++ p.lines; status = p.status }
+
+-- whole lines are answered, and then what follows them
+pub plan-lines : (answered : List (List ℕ)) (lines bytes : ℕ) (rest : List ℕ) → AreLines answered
+    → plan (lines + length answered) (bytes + length (with_feeds answered)) (with_feeds answered ++ rest) ≡ all_in_front answered (plan lines bytes rest)
+plan-lines [] lines bytes rest clean =
+    let l : lines + 0 ≡ lines = omega arith in
+    let b : bytes + 0 ≡ bytes = omega arith in
+    ap (λ n. plan n (bytes + 0) rest) l ∙ ap (λ n. plan lines n rest) b
+plan-lines (line ∷ more) lines bytes rest clean =
+    let all = lines + suc (length more) in
+    let room = bytes + length (line ++ 10 ∷ with_feeds more) in
+    let size : length (line ++ 10 ∷ with_feeds more) ≡ length line + suc (length (with_feeds more)) = length-append line (10 ∷ with_feeds more) in
+    let fewer : all - 1 ≡ lines + length more = omega arith in
+    let shorter : room - (length line + 1) ≡ bytes + length (with_feeds more) = omega arith in
+    ap (plan all room) (append_assoc line (10 ∷ with_feeds more) rest)
+    ∙ plan-line all room line (with_feeds more ++ rest) clean.0 (omega arith) (omega arith)
+    ∙ ap (λ n. in_front line (plan n (room - (length line + 1)) (with_feeds more ++ rest))) fewer
+    ∙ ap (λ n. in_front line (plan (lines + length more) n (with_feeds more ++ rest))) shorter
+    ∙ ap (in_front line) (plan-lines more lines bytes rest clean.1)
 
 -- what an unfinished line comes to where nothing follows it
 abbrev pub last_line : List ℕ → Plan

@@ -1,26 +1,23 @@
 -- The whole run of the program: its status, its output and the files that it leaves.
-use Rattle.std.specs.Prelude.{ℕ, ◌++◌, Bool, true, false, Option, None, Some, List, [], ◌∷◌}
+use Rattle.std.specs.Prelude.{◌≡◌, ℕ, ◌≤◌, ◌++◌, Bool, true, false, Option, None, Some, List, [], ◌∷◌, length, ⊤}
 use Rattle.eb_outside.specs.Causes.{Rose}
 use Rattle.eb_outside.specs.Shelves.{Files}
-use Rattle.eb_session.specs.Machine.{State, Step, answered}
+use Rattle.eb_session.specs.Machine.{State, Step, step, answered}
 use Rattle.eb_session.specs.Opening.{opened}
 use Rattle.eb_session.specs.Replies.{refused_text}
 use Rattle.ebake.specs.Words.{is_form, usage_text}
-use Rattle.ebake.specs.Lines.{Plan, plan}
+use Rattle.ebake.specs.Lines.{pieces, all_lines, Plan, plan}
 
--- the replies to some lines, end to end, and the files after them
-pub record Replay : Type 0 where
-  pub output : List ℕ
-  pub files : Files
+-- a step with an earlier reply in front of its own
+abbrev pub behind : List ℕ → Step → Step
+behind reply later = step (reply ++ later.reply) later.state later.files
 
-abbrev pub followed_by : Step → Replay → Replay
-followed_by step rest = record { output = step.reply ++ rest.output; files = rest.files }
-
--- the machine's steps over the lines, one after the other
-unfoldable pub replay : List (List ℕ) → State → Files → Replay
-replay [] state files = record { output = []; files = files }
+-- the machine's steps over the lines, one after the other, as one: the replies end to end, and state and files
+-- after the last
+unfoldable pub replay : List (List ℕ) → State → Files → Step
+replay [] state files = step [] state files
 replay (line ∷ lines) state files =
-    followed_by (answered line state files) (replay lines (answered line state files).state (answered line state files).files)
+    behind (answered line state files).reply (replay lines (answered line state files).state (answered line state files).files)
 
 -- how a run ends: its status, what the sink holds, and the files
 pub record End : Type 0 where
@@ -32,7 +29,7 @@ abbrev pub end_with : ℕ → List ℕ → Files → End
 end_with status output files = record { status = status; output = output; files = files }
 
 abbrev pub planned : Plan → State → Files → List ℕ → End
-planned p state files output = end_with p.status (output ++ (replay p.lines state files).output) (replay p.lines state files).files
+planned p state files output = end_with p.status (output ++ (replay p.lines state files).reply) (replay p.lines state files).files
 
 -- the lines of the input that are answered under the limits, from a state on, behind an output so far
 unfoldable pub session_end : ℕ → ℕ → State → Files → List ℕ → List ℕ → End
@@ -60,6 +57,21 @@ ended status (Some files) (Some left) (Some output) = Some (end_with status outp
 ended status (Some files) (Some left) None = None
 ended status (Some files) None output = None
 ended status None left output = None
+
+-- a statement for the run of a shelf that tells its files, a source that tells its bytes and a sink that tells what it holds
+abbrev pub WhereTold : Option Files → Option (List ℕ) → Option (List ℕ) → (Files → List ℕ → List ℕ → Type 0) → Type 0
+WhereTold (Some files) (Some input) (Some held) said = said files input held
+WhereTold (Some files) (Some input) None said = ⊤
+WhereTold (Some files) None held said = ⊤
+WhereTold None input held said = ⊤
+
+-- The words are a form, the folder opens, and the input keeps to the limits on lines and bytes.
+pub record IsWithin (lines bytes : ℕ) (words : List (List ℕ)) (files : Files) (input : List ℕ) : Type 0 where
+  pub form : is_form words ≡ true
+  pub state : State
+  pub opens : opened files ≡ Some state
+  pub bytes_fit : length input ≤ bytes
+  pub lines_fit : length (all_lines (pieces input)) ≤ lines
 
 -- What the headline rests on beside memory: no count of faults rose, of the shelf, of the source or of the sink.
 pub record IsFaultless (shelf_old shelf_new source_old source_new sink_old sink_new : ℕ) : Type 0 where

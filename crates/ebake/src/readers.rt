@@ -1,16 +1,18 @@
 // The reader of request lines: bytes in, replies out, within the limits of a run.
-ghost use Rattle.std.specs.Prelude.{◌≡◌, ◌==◌, ◌++◌, ◌+◌, ◌-◌, ◌<◌, ◌≤◌, ◌^◌, ℕ, List, [], ◌∷◌, Bool, false, Option, None, Some, option_map, length, take, drop, OnOk, OnErr, IsErrOf, IsOk, ◌⊎◌};
+ghost use Rattle.std.specs.Prelude.{◌≡◌, ◌==◌, ◌++◌, ◌+◌, ◌<◌, ◌≤◌, ◌^◌, ◌⊎◌, ℕ, List, [], ◌∷◌, false, Option, Some, length, OnOk, OnErr, IsErrOf, IsOk};
 ghost use Rattle.eb_outside.specs.Causes.{Rose};
 ghost use Rattle.eb_outside.specs.Shelves.{Files};
 ghost use Rattle.eb_outside.specs.Streams.{appended};
-ghost use Rattle.ebake.specs.Progress.{Answers, IsReady, line_of, whole_of, GoesOn, IsFront, IsSpent};
-ghost use Rattle.ebake.specs.Told.{End, ended};
+ghost use Rattle.eb_session.specs.Requests.{request_of};
+ghost use Rattle.eb_session.specs.declared.requests.Request.TheVariants.{Publish};
+ghost use Rattle.ebake.specs.Progress.{Answers, standing, IsAt, IsReady, ReadsOn, GoesOn, MeetsPublish, Finishes, IsFrontOf, IsCutShort};
 
+use crate::limits::Limits;
 use crate::outlet::give_kept;
 use crate::stops::Stop;
 use eb_outside::{Shelf, Sink};
 use eb_session::Session;
-use std::alloc::AllocError;
+use std::alloc::{AllocError, Global};
 
 /// How many bytes of an unfinished line are kept: one more than a request may have.
 const MOST_KEPT_BYTES: usize = 65537;
@@ -46,6 +48,7 @@ fn answer<H: Shelf>(
     ensures err { OnErr result (kept.new.items ≡ kept.old.items) }
     ensures later { H.faults shelf.old ≤ H.faults shelf.new }
     ensures cause { IsErrOf result Stop.Outside → Rose (H.faults shelf.old) (H.faults shelf.new) }
+    ensures publishes { IsErrOf result Stop.Outside → request_of line.now ≡ Some Publish }
     ensures no_limit { IsErrOf result Stop.Limit → ⊥ }
 {
     let reply = session.line(line, shelf)?;
@@ -54,10 +57,28 @@ fn answer<H: Shelf>(
 }
 
 impl Reader {
+    /// A reader of a session that has just been opened.
+    pub fn open(alloc: Global, limits: &Limits, session: Session) -> Self
+        requires { session.generation ≡ 0 }
+        ensures ready { IsReady result }
+        ensures fresh { IsAt result [] }
+        ensures session { result.session ≡ session }
+        ensures lines { result.lines ≡ limits.now.lines }
+        ensures bytes { result.bytes ≡ limits.now.bytes }
+    {
+        Reader {
+            session,
+            line: Vec::new(alloc),
+            skipped: 0,
+            lines: limits.lines,
+            bytes: limits.bytes,
+        }
+    }
+
     /// How many more bytes may be taken.
     pub fn room(&self) -> u64
         requires { IsReady self.now }
-        ensures { result + length (line_of self.now) ≡ self.now.bytes }
+        ensures { result + (length self.now.line.items + self.now.skipped) ≡ self.now.bytes }
     {
         self.bytes - (self.line.len() as u64 + self.skipped)
     }
@@ -66,11 +87,11 @@ impl Reader {
     fn keep(&mut self, byte: u8) -> Result<(), AllocError>
         requires ready { IsReady self.old }
         requires some { 0 < self.old.lines }
-        requires room { length (line_of self.old) < self.old.bytes }
+        requires room { length self.old.line.items + self.old.skipped < self.old.bytes }
         requires inside { (byte == 10) ≡ false }
         ensures ready { OnOk result (IsReady self.new) }
-        ensures told { OnOk result ((taken : List ℕ) (files : Option Files) (left held : Option (List ℕ)) → whole_of self.old (byte ∷ taken) files left held ≡ whole_of self.new taken files left held) }
-        ensures room { OnOk result (self.new.bytes + length (line_of self.old) + 1 ≡ self.old.bytes + length (line_of self.new)) }
+        ensures told { OnOk result ((line : List ℕ) (files : Option Files) (held : Option (List ℕ)) → IsAt self.old line → ReadsOn (standing self.old line) self.new (byte ∷ []) files files held held) }
+        ensures room { OnOk result (self.new.bytes + (length self.old.line.items + self.old.skipped) + 1 ≡ self.old.bytes + (length self.new.line.items + self.new.skipped)) }
     {
         if self.line.len() < MOST_KEPT_BYTES {
             self.line.push(byte)?;
@@ -84,15 +105,14 @@ impl Reader {
     fn end_line<H: Shelf>(&mut self, shelf: &mut H, kept: &mut Vec<u8>) -> Result<(), Stop>
         requires ready { IsReady self.old }
         requires some { 0 < self.old.lines }
-        requires room { length (line_of self.old) < self.old.bytes }
+        requires room { length self.old.line.items + self.old.skipped < self.old.bytes }
         ensures ready { OnOk result (IsReady self.new) }
-        ensures told { OnOk result ((taken : List ℕ) (left base : Option (List ℕ)) →
-            whole_of self.old (10 ∷ taken) (H.files shelf.old) left (appended base kept.old.items)
-            ≡ whole_of self.new taken (H.files shelf.new) left (appended base kept.new.items)) }
-        ensures room { OnOk result (self.new.bytes + length (line_of self.old) + 1 ≡ self.old.bytes + length (line_of self.new)) }
+        ensures told { OnOk result ((line : List ℕ) (held : Option (List ℕ)) → IsAt self.old line → ReadsOn (standing self.old line) self.new (10 ∷ []) (H.files shelf.old) (H.files shelf.new) (appended held kept.old.items) (appended held kept.new.items)) }
+        ensures room { OnOk result (self.new.bytes + (length self.old.line.items + self.old.skipped) + 1 ≡ self.old.bytes + (length self.new.line.items + self.new.skipped)) }
         ensures err { OnErr result (kept.new.items ≡ kept.old.items) }
         ensures later { H.faults shelf.old ≤ H.faults shelf.new }
         ensures cause { IsErrOf result Stop.Outside → Rose (H.faults shelf.old) (H.faults shelf.new) }
+        ensures publishes { IsErrOf result Stop.Outside → request_of self.old.line.items ≡ Some Publish }
         ensures no_limit { IsErrOf result Stop.Limit → ⊥ }
     {
         answer(&mut self.session, self.line.as_slice(), shelf, kept)?;
@@ -113,13 +133,11 @@ impl Reader {
         sink: &mut O,
     ) -> Result<(), Stop>
         requires ready { IsReady self.old }
-        requires room { length (line_of self.old) < self.old.bytes }
+        requires room { length self.old.line.items + self.old.skipped < self.old.bytes }
         ensures ready { OnOk result (IsReady self.new) }
-        ensures told { (taken : List ℕ) (left : Option (List ℕ)) → GoesOn result
-            (whole_of self.old (byte ∷ taken) (H.files shelf.old) left (appended (O.put sink.old) kept.old.items))
-            (whole_of self.new taken (H.files shelf.new) left (appended (O.put sink.new) kept.new.items))
-            (H.files shelf.new) left (appended (O.put sink.new) kept.new.items) }
-        ensures room { OnOk result (self.new.bytes + length (line_of self.old) + 1 ≡ self.old.bytes + length (line_of self.new)) }
+        ensures told { (line : List ℕ) → IsAt self.old line → GoesOn result (standing self.old line) self.new (byte ∷ []) (H.files shelf.old) (H.files shelf.new) (appended (O.put sink.old) kept.old.items) (appended (O.put sink.new) kept.new.items) }
+        ensures publishes { (line : List ℕ) → IsAt self.old line → IsErrOf result Stop.Outside → Rose (O.faults sink.old) (O.faults sink.new) ⊎ MeetsPublish (standing self.old line) (byte ∷ []) (H.files shelf.old) (appended (O.put sink.old) kept.old.items) (appended (O.put sink.new) kept.new.items) }
+        ensures room { OnOk result (self.new.bytes + (length self.old.line.items + self.old.skipped) + 1 ≡ self.old.bytes + (length self.new.line.items + self.new.skipped)) }
         ensures shelf { H.faults shelf.old ≤ H.faults shelf.new }
         ensures sink { O.faults sink.old ≤ O.faults sink.new }
         ensures cause { IsErrOf result Stop.Outside → Rose (H.faults shelf.old) (H.faults shelf.new) ⊎ Rose (O.faults sink.old) (O.faults sink.new) }
@@ -147,13 +165,11 @@ impl Reader {
         sink: &mut O,
     ) -> Result<(), Stop>
         requires ready { IsReady self.old }
-        requires room { length (line_of self.old) + length piece.now ≤ self.old.bytes }
+        requires room { length self.old.line.items + self.old.skipped + length piece.now ≤ self.old.bytes }
         ensures ready { OnOk result (IsReady self.new) }
-        ensures told { (left : Option (List ℕ)) → GoesOn result
-            (whole_of self.old piece.now (H.files shelf.old) left (appended (O.put sink.old) kept.old.items))
-            (whole_of self.new [] (H.files shelf.new) left (appended (O.put sink.new) kept.new.items))
-            (H.files shelf.new) left (appended (O.put sink.new) kept.new.items) }
-        ensures room { OnOk result (self.new.bytes + length (line_of self.old) + length piece.now ≡ self.old.bytes + length (line_of self.new)) }
+        ensures told { (line : List ℕ) → IsAt self.old line → GoesOn result (standing self.old line) self.new piece.now (H.files shelf.old) (H.files shelf.new) (appended (O.put sink.old) kept.old.items) (appended (O.put sink.new) kept.new.items) }
+        ensures publishes { (line : List ℕ) → IsAt self.old line → IsErrOf result Stop.Outside → Rose (O.faults sink.old) (O.faults sink.new) ⊎ MeetsPublish (standing self.old line) piece.now (H.files shelf.old) (appended (O.put sink.old) kept.old.items) (appended (O.put sink.new) kept.new.items) }
+        ensures room { OnOk result (self.new.bytes + (length self.old.line.items + self.old.skipped) + length piece.now ≡ self.old.bytes + (length self.new.line.items + self.new.skipped)) }
         ensures shelf { H.faults shelf.old ≤ H.faults shelf.new }
         ensures sink { O.faults sink.old ≤ O.faults sink.new }
         ensures cause { IsErrOf result Stop.Outside → Rose (H.faults shelf.old) (H.faults shelf.new) ⊎ Rose (O.faults sink.old) (O.faults sink.new) }
@@ -167,12 +183,10 @@ impl Reader {
     /// Answers the last line, which no line feed ends, unless it is empty.
     fn finish<H: Shelf>(&mut self, shelf: &mut H, kept: &mut Vec<u8>) -> Result<(), Stop>
         requires ready { IsReady self.old }
-        ensures told { (left base : Option (List ℕ)) → IsSpent left → GoesOn result
-            (whole_of self.old [] (H.files shelf.old) left (appended base kept.old.items))
-            (ended 0 (H.files shelf.new) left (appended base kept.new.items))
-            (H.files shelf.new) left (appended base kept.new.items) }
+        ensures told { (line : List ℕ) (held : Option (List ℕ)) → IsAt self.old line → Finishes result (standing self.old line) (H.files shelf.old) (H.files shelf.new) (appended held kept.old.items) (appended held kept.new.items) }
         ensures later { H.faults shelf.old ≤ H.faults shelf.new }
         ensures cause { IsErrOf result Stop.Outside → Rose (H.faults shelf.old) (H.faults shelf.new) }
+        ensures publishes { IsErrOf result Stop.Outside → (0 < length self.old.line.items) × (request_of self.old.line.items ≡ Some Publish) × (kept.new.items ≡ kept.old.items) }
     {
         if self.line.is_empty() {
             return Ok(());
@@ -190,14 +204,12 @@ impl Reader {
         sink: &mut O,
     ) -> Result<(), Stop>
         requires ready { IsReady self.old }
-        requires room { length (line_of self.old) + length piece.now ≤ self.old.bytes }
+        requires room { length self.old.line.items + self.old.skipped + length piece.now ≤ self.old.bytes }
         requires none { kept.old.items ≡ [] }
         ensures ready { OnOk result (IsReady self.new) }
-        ensures told { (left : Option (List ℕ)) → GoesOn result
-            (whole_of self.old piece.now (H.files shelf.old) left (O.put sink.old))
-            (whole_of self.new [] (H.files shelf.new) left (O.put sink.new))
-            (H.files shelf.new) left (O.put sink.new) }
-        ensures room { OnOk result (self.new.bytes + length (line_of self.old) + length piece.now ≡ self.old.bytes + length (line_of self.new)) }
+        ensures told { (line : List ℕ) → IsAt self.old line → GoesOn result (standing self.old line) self.new piece.now (H.files shelf.old) (H.files shelf.new) (O.put sink.old) (O.put sink.new) }
+        ensures publishes { (line : List ℕ) → IsAt self.old line → IsErrOf result Stop.Outside → Rose (O.faults sink.old) (O.faults sink.new) ⊎ MeetsPublish (standing self.old line) piece.now (H.files shelf.old) (O.put sink.old) (O.put sink.new) }
+        ensures room { OnOk result (self.new.bytes + (length self.old.line.items + self.old.skipped) + length piece.now ≡ self.old.bytes + (length self.new.line.items + self.new.skipped)) }
         ensures none { kept.new.items ≡ [] }
         ensures shelf { H.faults shelf.old ≤ H.faults shelf.new }
         ensures sink { O.faults sink.old ≤ O.faults sink.new }
@@ -216,10 +228,8 @@ impl Reader {
     ) -> Result<(), Stop>
         requires ready { IsReady self.old }
         requires none { kept.old.items ≡ [] }
-        ensures told { (left : Option (List ℕ)) → IsSpent left → GoesOn result
-            (whole_of self.old [] (H.files shelf.old) left (O.put sink.old))
-            (ended 0 (H.files shelf.new) left (O.put sink.new))
-            (H.files shelf.new) left (O.put sink.new) }
+        ensures told { (line : List ℕ) → IsAt self.old line → Finishes result (standing self.old line) (H.files shelf.old) (H.files shelf.new) (O.put sink.old) (O.put sink.new) }
+        ensures publishes { IsErrOf result Stop.Outside → Rose (O.faults sink.old) (O.faults sink.new) ⊎ ((0 < length self.old.line.items) × (request_of self.old.line.items ≡ Some Publish) × (O.put sink.new ≡ O.put sink.old)) }
         ensures shelf { H.faults shelf.old ≤ H.faults shelf.new }
         ensures sink { O.faults sink.old ≤ O.faults sink.new }
         ensures cause { IsErrOf result Stop.Outside → Rose (H.faults shelf.old) (H.faults shelf.new) ⊎ Rose (O.faults sink.old) (O.faults sink.new) }
@@ -231,10 +241,8 @@ impl Reader {
 
 /// Gives the kept replies to the sink, also where what was done before has stopped the run.
 fn give_then<O: Sink>(sink: &mut O, kept: &mut Vec<u8>, done: Result<(), Stop>) -> Result<(), Stop>
-    ensures told { (before : Option End) (after : Option (List ℕ) → Option End) (files : Option Files) (left : Option (List ℕ)) →
-        ((held : Option (List ℕ)) → IsFront held (after held)) →
-        GoesOn done before (after (appended (O.put sink.old) kept.old.items)) files left (appended (O.put sink.old) kept.old.items) →
-        GoesOn result before (after (O.put sink.new)) files left (O.put sink.new) }
+    ensures given { ((result ≡ done) × (O.put sink.new ≡ appended (O.put sink.old) kept.old.items))
+        ⊎ (IsCutShort result × (IsFrontOf (O.put sink.new) (appended (O.put sink.old) kept.old.items) × (IsErrOf result Stop.Outside → Rose (O.faults sink.old) (O.faults sink.new)))) }
     ensures ok { OnOk result (IsOk done) }
     ensures none { kept.new.items ≡ [] }
     ensures sink { O.faults sink.old ≤ O.faults sink.new }

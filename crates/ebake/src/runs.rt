@@ -1,14 +1,15 @@
 // The whole run: words, opening, lines, status.
-ghost use Rattle.std.specs.Prelude.{◌≡◌, ◌≢◌, ◌≤◌, ◌-◌, ◌^◌, ◌⊎◌, ℕ, Bool, true, false, [], IfOk, IsErrOf, ◌↔◌};
+ghost use Rattle.std.specs.Prelude.{◌≡◌, ◌≢◌, ◌≤◌, ◌-◌, ◌^◌, ◌⊎◌, ℕ, Bool, true, false, None, Ok, IfOk, IfSome, IsErrOf, ◌↔◌};
 ghost use Rattle.eb_outside.specs.Causes.{Rose};
 ghost use Rattle.ebake.specs.Words.{is_form};
-ghost use Rattle.ebake.specs.Told.{told, ended, IsFaultless};
-ghost use Rattle.ebake.specs.Progress.{whole, IsFront, Follows};
+ghost use Rattle.eb_session.specs.Opening.{opened};
+ghost use Rattle.ebake.specs.Told.{told, ended, IsFaultless, IsWithin, WhereTold};
+ghost use Rattle.ebake.specs.Progress.{IsFront, Follows, IsSpent};
+ghost use Rattle.ebake.specs.Faults.{HasAnswered, IsAtOpening, IsAtPublication};
 
 use crate::limits::Limits;
 use crate::outlet::give_all;
-use crate::readers::Reader;
-use crate::serving::serve;
+use crate::serving::answer_lines;
 use crate::stops::Stop;
 use crate::words::{is_session, usage};
 use eb_base::Text;
@@ -16,36 +17,6 @@ use eb_outside::{Shelf, Sink, Source};
 use eb_session::{OpenEnd, Session};
 use std::alloc::Global;
 use std::thread::Threads;
-
-/// Answers the lines of the source in a session that is open.
-fn answer_lines<H: Shelf, I: Source, O: Sink>(
-    alloc: Global,
-    limits: &Limits,
-    session: Session,
-    shelf: &mut H,
-    source: &mut I,
-    sink: &mut O,
-) -> Result<u8, Stop>
-    requires { session.generation ≡ 0 }
-    ensures told { Follows result
-        (whole limits.now.lines limits.now.bytes session [] (H.files shelf.old) (I.left source.old) (O.put sink.old))
-        (H.files shelf.new) (I.left source.new) (O.put sink.new) }
-    ensures status { IfOk result (λ status. status ≡ 0) }
-    ensures shelf { H.faults shelf.old ≤ H.faults shelf.new }
-    ensures source { I.faults source.old ≤ I.faults source.new }
-    ensures sink { O.faults sink.old ≤ O.faults sink.new }
-    ensures cause { IsErrOf result Stop.Outside → Rose (H.faults shelf.old) (H.faults shelf.new) ⊎ (Rose (I.faults source.old) (I.faults source.new) ⊎ Rose (O.faults sink.old) (O.faults sink.new)) }
-{
-    let mut reader = Reader {
-        session,
-        line: Vec::new(alloc),
-        skipped: 0,
-        lines: limits.lines,
-        bytes: limits.bytes,
-    };
-    serve(alloc, &mut reader, shelf, source, sink)?;
-    Ok(0)
-}
 
 /// The status of the words' run, or why it stopped.
 fn outcome<H: Shelf, I: Source, O: Sink>(
@@ -61,11 +32,17 @@ fn outcome<H: Shelf, I: Source, O: Sink>(
         (H.files shelf.new) (I.left source.new) (O.put sink.new) }
     ensures status { IfOk result (λ status. (status ≡ 0) ⊎ ((status ≡ 2) ⊎ (status ≡ 3))) }
     ensures words { IfOk result (λ status. status ≡ 2 ↔ (is_form words.now ≡ false)) }
+    ensures refused { IfOk result (λ status. status ≡ 3 → (is_form words.now ≡ true) × IfSome (H.files shelf.old) (λ files. opened files ≡ None)) }
     ensures limit { IsErrOf result Stop.Limit → is_form words.now ≡ true }
     ensures shelf { H.faults shelf.old ≤ H.faults shelf.new }
     ensures source { I.faults source.old ≤ I.faults source.new }
     ensures sink { O.faults sink.old ≤ O.faults sink.new }
-    ensures cause { IsErrOf result Stop.Outside → Rose (H.faults shelf.old) (H.faults shelf.new) ⊎ (Rose (I.faults source.old) (I.faults source.new) ⊎ Rose (O.faults sink.old) (O.faults sink.new)) }
+    ensures causes { IsErrOf result Stop.Outside → Rose (O.faults sink.old) (O.faults sink.new)
+        ⊎ ((Rose (I.faults source.old) (I.faults source.new) × HasAnswered (H.files shelf.old) (I.left source.old) (I.left source.new) (O.put sink.old) (O.put sink.new))
+        ⊎ (Rose (H.faults shelf.old) (H.faults shelf.new) × (IsAtOpening (I.left source.old) (I.left source.new) (O.put sink.old) (O.put sink.new)
+        ⊎ IsAtPublication limits.now.lines limits.now.bytes (H.files shelf.old) (I.left source.old) (O.put sink.old) (O.put sink.new)))) }
+    ensures spent { IfOk result (λ status. status ≡ 0 → IsSpent (I.left source.new)) }
+    ensures untouched { (is_form words.now ≡ false) ⊎ (result ≡ Ok 3) → (I.left source.new ≡ I.left source.old) × (I.faults source.new ≡ I.faults source.old) }
 {
     if !is_session(words) {
         give_all(sink, usage())?;
@@ -98,11 +75,19 @@ pub fn run_within<T: Threads + Sync, H: Shelf, I: Source, O: Sink>(
     ensures told { result ≢ 1 → result ≢ 4 →
         told limits.now.lines limits.now.bytes words.now (H.files shelf.old) (I.left source.old) (O.put sink.old)
         ≡ ended result (H.files shelf.new) (I.left source.new) (O.put sink.new) }
+    ensures complete { IsFaultless (H.faults shelf.old) (H.faults shelf.new) (I.faults source.old) (I.faults source.new) (O.faults sink.old) (O.faults sink.new) →
+        WhereTold (H.files shelf.old) (I.left source.old) (O.put sink.old) (λ files input held. IsWithin limits.now.lines limits.now.bytes words.now files input → (result ≡ 4) ⊎ (result ≡ 0)) }
     ensures front { (result ≡ 1) ⊎ (result ≡ 4) → IsFront (O.put sink.new)
         (told limits.now.lines limits.now.bytes words.now (H.files shelf.old) (I.left source.old) (O.put sink.old)) }
-    ensures outside { result ≡ 1 → Rose (H.faults shelf.old) (H.faults shelf.new) ⊎ (Rose (I.faults source.old) (I.faults source.new) ⊎ Rose (O.faults sink.old) (O.faults sink.new)) }
+    ensures done { result ≡ 0 → (is_form words.now ≡ true) × IsSpent (I.left source.new) }
+    ensures causes { result ≡ 1 → Rose (O.faults sink.old) (O.faults sink.new)
+        ⊎ ((Rose (I.faults source.old) (I.faults source.new) × HasAnswered (H.files shelf.old) (I.left source.old) (I.left source.new) (O.put sink.old) (O.put sink.new))
+        ⊎ (Rose (H.faults shelf.old) (H.faults shelf.new) × (IsAtOpening (I.left source.old) (I.left source.new) (O.put sink.old) (O.put sink.new)
+        ⊎ IsAtPublication limits.now.lines limits.now.bytes (H.files shelf.old) (I.left source.old) (O.put sink.old) (O.put sink.new)))) }
     ensures words { result ≡ 2 → is_form words.now ≡ false }
     ensures no_form { is_form words.now ≡ false → (result ≡ 2) ⊎ ((result ≡ 1) ⊎ (result ≡ 4)) }
+    ensures refused { result ≡ 3 → (is_form words.now ≡ true) × IfSome (H.files shelf.old) (λ files. opened files ≡ None) }
+    ensures untouched { (is_form words.now ≡ false) ⊎ (result ≡ 3) → (I.left source.new ≡ I.left source.old) × (I.faults source.new ≡ I.faults source.old) }
     ensures range { result ≤ 5 }
 {
     match outcome(alloc, limits, words, shelf, source, sink) {
@@ -129,11 +114,19 @@ pub fn run<T: Threads + Sync, H: Shelf, I: Source, O: Sink>(
     ensures told { result ≢ 1 → result ≢ 4 →
         told (2 ^ 32 - 1) (2 ^ 40) words.now (H.files shelf.old) (I.left source.old) (O.put sink.old)
         ≡ ended result (H.files shelf.new) (I.left source.new) (O.put sink.new) }
+    ensures complete { IsFaultless (H.faults shelf.old) (H.faults shelf.new) (I.faults source.old) (I.faults source.new) (O.faults sink.old) (O.faults sink.new) →
+        WhereTold (H.files shelf.old) (I.left source.old) (O.put sink.old) (λ files input held. IsWithin (2 ^ 32 - 1) (2 ^ 40) words.now files input → (result ≡ 4) ⊎ (result ≡ 0)) }
     ensures front { (result ≡ 1) ⊎ (result ≡ 4) → IsFront (O.put sink.new)
         (told (2 ^ 32 - 1) (2 ^ 40) words.now (H.files shelf.old) (I.left source.old) (O.put sink.old)) }
-    ensures outside { result ≡ 1 → Rose (H.faults shelf.old) (H.faults shelf.new) ⊎ (Rose (I.faults source.old) (I.faults source.new) ⊎ Rose (O.faults sink.old) (O.faults sink.new)) }
+    ensures done { result ≡ 0 → (is_form words.now ≡ true) × IsSpent (I.left source.new) }
+    ensures causes { result ≡ 1 → Rose (O.faults sink.old) (O.faults sink.new)
+        ⊎ ((Rose (I.faults source.old) (I.faults source.new) × HasAnswered (H.files shelf.old) (I.left source.old) (I.left source.new) (O.put sink.old) (O.put sink.new))
+        ⊎ (Rose (H.faults shelf.old) (H.faults shelf.new) × (IsAtOpening (I.left source.old) (I.left source.new) (O.put sink.old) (O.put sink.new)
+        ⊎ IsAtPublication (2 ^ 32 - 1) (2 ^ 40) (H.files shelf.old) (I.left source.old) (O.put sink.old) (O.put sink.new)))) }
     ensures words { result ≡ 2 → is_form words.now ≡ false }
     ensures no_form { is_form words.now ≡ false → (result ≡ 2) ⊎ ((result ≡ 1) ⊎ (result ≡ 4)) }
+    ensures refused { result ≡ 3 → (is_form words.now ≡ true) × IfSome (H.files shelf.old) (λ files. opened files ≡ None) }
+    ensures untouched { (is_form words.now ≡ false) ⊎ (result ≡ 3) → (I.left source.new ≡ I.left source.old) × (I.faults source.new ≡ I.faults source.old) }
     ensures range { result ≤ 5 }
 {
     run_within(rt, alloc, &Limits::most(), words, shelf, source, sink)

@@ -1,13 +1,16 @@
 // The answers to the lines of a source, until it ends or a limit is reached.
-ghost use Rattle.std.specs.Prelude.{◌≡◌, ◌<◌, ◌≤◌, ◌+◌, ℕ, [], length, IfOk, IsErrOf, ◌⊎◌};
+ghost use Rattle.std.specs.Prelude.{◌≡◌, ◌<◌, ◌≤◌, ◌⊎◌, ℕ, [], Some, length, IfOk, IfSome, OnOk, IsErrOf};
 ghost use Rattle.eb_outside.specs.Causes.{Rose, HasCause};
 ghost use Rattle.eb_outside.specs.Streams.{TakesKnown};
-ghost use Rattle.ebake.specs.Progress.{IsReady, whole_of, GoesOn};
-ghost use Rattle.ebake.specs.Told.{ended};
+ghost use Rattle.eb_session.specs.Opening.{opened};
+ghost use Rattle.ebake.specs.Progress.{standing, first_standing, whole, Follows, Serves, IsReady, IsAt, IsSpent};
+ghost use Rattle.ebake.specs.Faults.{HasAnswered, IsAtPublication};
 
+use crate::limits::Limits;
 use crate::readers::Reader;
 use crate::stops::Stop;
 use eb_outside::{Fault, Shelf, Sink, Source};
+use eb_session::Session;
 use std::alloc::Global;
 
 /// How many bytes are taken from a source at a time.
@@ -25,23 +28,28 @@ fn take_piece<I: Source>(source: &mut I, buffer: &mut [u8], most: usize) -> Resu
     Ok(count)
 }
 
-/// Answers all lines of the source. All replies to what was taken are given to the sink before more is taken.
-pub fn serve<H: Shelf, I: Source, O: Sink>(
+/// Answers all lines of the source, from a reader on that has just been opened. All replies to what was taken are given
+/// to the sink before more is taken.
+fn serve<H: Shelf, I: Source, O: Sink>(
     alloc: Global,
     reader: &mut Reader,
     shelf: &mut H,
     source: &mut I,
     sink: &mut O,
 ) -> Result<(), Stop>
-    requires { IsReady reader.old }
-    ensures told { GoesOn result
-        (whole_of reader.old [] (H.files shelf.old) (I.left source.old) (O.put sink.old))
-        (ended 0 (H.files shelf.new) (I.left source.new) (O.put sink.new))
+    requires ready { IsReady reader.old }
+    requires fresh { IsAt reader.old [] }
+    requires opens { IfSome (H.files shelf.old) (λ files. opened files ≡ Some reader.old.session) }
+    ensures told { Serves result
+        (whole (standing reader.old []) (H.files shelf.old) (I.left source.old) (O.put sink.old))
         (H.files shelf.new) (I.left source.new) (O.put sink.new) }
+    ensures spent { OnOk result (IsSpent (I.left source.new)) }
+    ensures causes { IsErrOf result Stop.Outside → Rose (O.faults sink.old) (O.faults sink.new)
+        ⊎ ((Rose (I.faults source.old) (I.faults source.new) × HasAnswered (H.files shelf.old) (I.left source.old) (I.left source.new) (O.put sink.old) (O.put sink.new))
+        ⊎ (Rose (H.faults shelf.old) (H.faults shelf.new) × IsAtPublication reader.old.lines reader.old.bytes (H.files shelf.old) (I.left source.old) (O.put sink.old) (O.put sink.new))) }
     ensures shelf { H.faults shelf.old ≤ H.faults shelf.new }
     ensures source { I.faults source.old ≤ I.faults source.new }
     ensures sink { O.faults sink.old ≤ O.faults sink.new }
-    ensures cause { IsErrOf result Stop.Outside → Rose (H.faults shelf.old) (H.faults shelf.new) ⊎ (Rose (I.faults source.old) (I.faults source.new) ⊎ Rose (O.faults sink.old) (O.faults sink.new)) }
 {
     let mut buffer = [0; PIECE_BYTES];
     let mut kept = Vec::new(alloc);
@@ -57,4 +65,32 @@ pub fn serve<H: Shelf, I: Source, O: Sink>(
         }
         reader.feed_piece(&buffer[..count], shelf, &mut kept, sink)?;
     }
+}
+
+/// Answers the lines of the source in a session that has just been opened, and answers the status.
+pub fn answer_lines<H: Shelf, I: Source, O: Sink>(
+    alloc: Global,
+    limits: &Limits,
+    session: Session,
+    shelf: &mut H,
+    source: &mut I,
+    sink: &mut O,
+) -> Result<u8, Stop>
+    requires first { session.generation ≡ 0 }
+    requires opens { IfSome (H.files shelf.old) (λ files. opened files ≡ Some session) }
+    ensures told { Follows result
+        (whole (first_standing limits.now.lines limits.now.bytes session) (H.files shelf.old) (I.left source.old) (O.put sink.old))
+        (H.files shelf.new) (I.left source.new) (O.put sink.new) }
+    ensures status { IfOk result (λ status. status ≡ 0) }
+    ensures spent { OnOk result (IsSpent (I.left source.new)) }
+    ensures causes { IsErrOf result Stop.Outside → Rose (O.faults sink.old) (O.faults sink.new)
+        ⊎ ((Rose (I.faults source.old) (I.faults source.new) × HasAnswered (H.files shelf.old) (I.left source.old) (I.left source.new) (O.put sink.old) (O.put sink.new))
+        ⊎ (Rose (H.faults shelf.old) (H.faults shelf.new) × IsAtPublication limits.now.lines limits.now.bytes (H.files shelf.old) (I.left source.old) (O.put sink.old) (O.put sink.new))) }
+    ensures shelf { H.faults shelf.old ≤ H.faults shelf.new }
+    ensures source { I.faults source.old ≤ I.faults source.new }
+    ensures sink { O.faults sink.old ≤ O.faults sink.new }
+{
+    let mut reader = Reader::open(alloc, limits, session);
+    serve(alloc, &mut reader, shelf, source, sink)?;
+    Ok(0)
 }

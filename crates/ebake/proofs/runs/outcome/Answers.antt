@@ -1,10 +1,10 @@
-use Rattle.std.proofs.Common.{◌≡◌, [], ap, sym, ◌∙◌, true, false, arith}
+use Rattle.std.proofs.Common.{◌≡◌, ap, sym, ◌∙◌, true, false, arith}
 use Rattle.std.proofs.lemmas.Result.{err_from_is_err_and}
 use Rattle.eb_outside.specs.Streams.{appended}
 use Rattle.ebake.specs.Told.{told, ended}
 use Rattle.ebake.specs.Words.{is_form}
-use Rattle.ebake.specs.Progress.{whole}
-use Rattle.ebake.proofs.ToldFacts.{told-no_form, told-refused, told-opened, IsFront-told, Follows-given, Follows-same}
+use Rattle.ebake.specs.Progress.{first_standing, whole}
+use Rattle.ebake.proofs.ToldFacts.{not_three, told-no_form, told-refused, told-opened, IsFront-told, Follows-given, Follows-same}
 use Rattle.ebake.proofs.runs.outcome.Goals as goal
 
 pub returns-in_err-give_all-clause-told : goal.returns-in_err-give_all-clause-told
@@ -50,8 +50,8 @@ returns-in-Ok-clause-told g c =
     let lines = c.args.limits.now.lines in
     let bytes = c.args.limits.now.bytes in
     let form : is_form c.args.words.now ≡ true = grind arith in
-    let same = told-opened lines bytes c.args.words.now c.in-Ok.session files left base form c.in-Ok.ensures.opened ∙ ap (λ f. whole lines bytes c.in-Ok.session [] f left base) (sym c.in-Ok.ensures.files) in
-    Follows-same c.answer_lines.result (told lines bytes c.args.words.now files left base) (whole lines bytes c.in-Ok.session [] (g.H.Shelf.files c.open.new.shelf) left base)
+    let same = told-opened lines bytes c.args.words.now c.in-Ok.session files left base form c.in-Ok.ensures.opened ∙ ap (λ f. whole (first_standing lines bytes c.in-Ok.session) f left base) (sym c.in-Ok.ensures.files) in
+    Follows-same c.answer_lines.result (told lines bytes c.args.words.now files left base) (whole (first_standing lines bytes c.in-Ok.session) (g.H.Shelf.files c.open.new.shelf) left base)
     (g.H.Shelf.files c.answer_lines.new.shelf) (g.I.Source.left c.answer_lines.new.source) (g.O.Sink.put c.answer_lines.new.sink) same c.answer_lines.ensures.told
 
 pub returns-in_ok-give_all-in-Err-Refused-clause-told : goal.returns-in_ok-give_all-in-Err-Refused-clause-told
@@ -74,3 +74,8 @@ returns-in-Err-Shelf-clause-told g c =
 pub returns-in-Err-Memory-clause-told : goal.returns-in-Err-Memory-clause-told
 returns-in-Err-Memory-clause-told g c =
     IsFront-told c.args.limits.now.lines c.args.limits.now.bytes c.args.words.now (g.H.Shelf.files c.args.shelf.now) (g.I.Source.left c.args.source.now) (g.O.Sink.put c.args.sink.now)
+
+pub returns-in-Ok-clause-untouched : goal.returns-in-Ok-clause-untouched
+returns-in-Ok-clause-untouched g c touched =
+    let form : is_form c.args.words.now ≡ true = grind arith in
+    absurd (not_three (is_form c.args.words.now) c.answer_lines.result form c.answer_lines.ensures.status touched)

@@ -1,18 +1,21 @@
-use Rattle.std.proofs.Common.{◌≡◌, ℕ, List, [], ap, ◌∙◌, subst}
-use Rattle.std.specs.Prelude.{Option}
+use Rattle.std.proofs.Common.{◌≡◌, inl, inr, ap, ◌∙◌, subst}
 use Rattle.eb_outside.specs.Streams.{appended}
 use Rattle.eb_outside.proofs.Laws.{appended-nil}
-use Rattle.ebake.specs.Progress.{whole_of, GoesOn}
-use Rattle.ebake.specs.Told.{End, ended}
-use Rattle.ebake.proofs.FrontFacts.{IsFront-ended}
+use Rattle.ebake.specs.Progress.{standing, Finishes}
+use Rattle.ebake.proofs.ReaderFacts.{Finishes-given}
 use Rattle.ebake.proofs.readers.Reader.close.Goals as goal
 
 pub returns-clause-told : goal.returns-clause-told
-returns-clause-told g c left spent =
+returns-clause-told g c line is_at =
     let put = g.O.Sink.put c.args.sink.now in
-    let files = g.H.Shelf.files c.finish-finished.new.shelf in
-    let before : Option (List ℕ) → Option End = λ held. whole_of c.args.self.now [] (g.H.Shelf.files c.args.shelf.now) left held in
-    let after : Option (List ℕ) → Option End = λ held. ended 0 files left held in
-    let none : appended put c.args.kept.now.items ≡ put = ap (appended put) c.requires.none ∙ appended-nil put in
-    subst (λ h. GoesOn c.give_then.result (before h) (after (g.O.Sink.put c.give_then.new.sink)) files left (g.O.Sink.put c.give_then.new.sink)) none
-    (c.give_then.ensures.told (before (appended put c.args.kept.now.items)) after files left (λ held. IsFront-ended 0 files left held) (c.finish-finished.ensures.told left put spent))
+    let now = g.O.Sink.put c.give_then.new.sink in
+    let start = standing c.args.self.now line in
+    let before = g.H.Shelf.files c.args.shelf.now in
+    let after = g.H.Shelf.files c.finish-finished.new.shelf in
+    let base : appended put c.args.kept.now.items ≡ put = ap (appended put) c.requires.none ∙ appended-nil put in
+    let all = appended put c.finish-finished.new.kept.items in
+    let finishes : Finishes c.finish-finished.result start before after put all = subst (λ h. Finishes c.finish-finished.result start before after h all) base (c.finish-finished.ensures.told line put is_at) in
+    elim c.give_then.ensures.given [
+      inl same ↦ rw (same.0, same.1) finishes
+    | inr cut ↦ Finishes-given (Unit {0}) (Unit {0}) c.finish-finished.result c.give_then.result start before after put all now finishes cut.0 cut.1.0
+    ]

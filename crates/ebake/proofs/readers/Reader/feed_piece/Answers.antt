@@ -1,20 +1,23 @@
-use Rattle.std.proofs.Common.{◌≡◌, ℕ, List, [], ◌++◌, ap, ◌∙◌, subst}
-use Rattle.std.specs.Prelude.{Option}
+use Rattle.std.proofs.Common.{◌≡◌, inl, inr, ap, ◌∙◌, subst}
 use Rattle.eb_outside.specs.Streams.{appended}
 use Rattle.eb_outside.proofs.Laws.{appended-nil}
-use Rattle.ebake.specs.Progress.{line_of, whole_of, GoesOn}
-use Rattle.ebake.specs.Told.{End}
-use Rattle.ebake.proofs.FrontFacts.{IsFront-whole}
+use Rattle.ebake.specs.Progress.{standing, GoesOn}
+use Rattle.ebake.proofs.ReaderFacts.{GoesOn-cut, IsCut-given}
 use Rattle.ebake.proofs.readers.Reader.feed_piece.Goals as goal
 
 pub returns-clause-told : goal.returns-clause-told
-returns-clause-told g c left =
+returns-clause-told g c line is_at =
     let put = g.O.Sink.put c.args.sink.now in
+    let now = g.O.Sink.put c.give_then.new.sink in
+    let start = standing c.args.self.now line in
+    let piece = c.args.piece.now in
     let reader = c.feed-fed.new.self in
-    let files = g.H.Shelf.files c.feed-fed.new.shelf in
-    let before : Option (List ℕ) → Option End = λ held. whole_of c.args.self.now c.args.piece.now (g.H.Shelf.files c.args.shelf.now) left held in
-    let after : Option (List ℕ) → Option End = λ held. whole_of reader [] files left held in
-    let none : appended put c.args.kept.now.items ≡ put = ap (appended put) c.requires.none ∙ appended-nil put in
-    subst (λ h. GoesOn c.give_then.result (before h) (after (g.O.Sink.put c.give_then.new.sink)) files left (g.O.Sink.put c.give_then.new.sink)) none
-    (c.give_then.ensures.told (before (appended put c.args.kept.now.items)) after files left
-    (λ held. IsFront-whole reader.lines reader.bytes reader.session (line_of reader ++ []) files left held) (c.feed-fed.ensures.told left))
+    let before = g.H.Shelf.files c.args.shelf.now in
+    let after = g.H.Shelf.files c.feed-fed.new.shelf in
+    let base : appended put c.args.kept.now.items ≡ put = ap (appended put) c.requires.none ∙ appended-nil put in
+    let all = appended (g.O.Sink.put c.feed-fed.new.sink) c.feed-fed.new.kept.items in
+    let goes : GoesOn c.feed-fed.result start reader piece before after put all = subst (λ h. GoesOn c.feed-fed.result start reader piece before after h all) base (c.feed-fed.ensures.told line is_at) in
+    elim c.give_then.ensures.given [
+      inl same ↦ rw (same.0, same.1) goes
+    | inr cut ↦ GoesOn-cut (Unit {0}) c.give_then.result start reader piece before after put now cut.0 (IsCut-given (Unit {0}) c.feed-fed.result start reader piece before after put all now goes cut.1.0)
+    ]
