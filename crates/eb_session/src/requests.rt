@@ -2,7 +2,7 @@
 ghost use Rattle.std.specs.Prelude.{◌≡◌, ◌≤◌, length, Option, IfOk, option_and_then};
 ghost use Rattle.serde_json.specs.Find.{get};
 ghost use Rattle.serde_json.specs.View.{view};
-ghost use Rattle.eb_session.specs.Requests.{is_text_member, is_publish, is_set_field, set_field_of, request_in, request_of};
+ghost use Rattle.eb_session.specs.Requests.{is_text_member, is_word, is_of_section, is_set_field, set_field_of, request_in, request_of};
 
 use crate::plain_project::{is_natural_member, object_number};
 use eb_base::Memory;
@@ -25,6 +25,12 @@ pub enum Request {
         /// The new value.
         value: i64,
     },
+    /// Load section 0 of scene 1 into the world, as it was last published.
+    Load,
+    /// Take section 0 of scene 1 out of the world.
+    Unload,
+    /// Print every entity of the world.
+    Dump,
 }
 
 /// Whether the value has this text under the key.
@@ -37,11 +43,23 @@ fn is_text_member_at(value: &Value, key: &str, text: &str) -> bool
     }
 }
 
-#[tactic(auto, unfolding(crate::specs::Requests::is_publish))]
-fn is_publish_request(value: &Value) -> bool
-    ensures { result ≡ is_publish (view value.now) }
+/// Whether the value is a request of this word alone.
+#[tactic(auto, unfolding(crate::specs::Requests::is_word))]
+fn is_word_alone(value: &Value, word: &str) -> bool
+    ensures { result ≡ is_word word.now (view value.now) }
 {
-    has_keys(value, &["do"]) && is_text_member_at(value, "do", "publish")
+    has_keys(value, &["do"]) && is_text_member_at(value, "do", word)
+}
+
+/// Whether the value is a request of this word about section 0 of scene 1.
+#[tactic(auto, unfolding(crate::specs::Requests::is_of_section))]
+fn is_section_request(value: &Value, word: &str) -> bool
+    ensures { result ≡ is_of_section word.now (view value.now) }
+{
+    has_keys(value, &["do", "scene", "section"])
+        && is_text_member_at(value, "do", word)
+        && is_natural_member(value, "scene", 1)
+        && is_natural_member(value, "section", 0)
 }
 
 #[tactic(auto, unfolding(crate::specs::Requests::is_set_field))]
@@ -71,8 +89,17 @@ fn set_field_request(value: &Value) -> Option<Request>
 fn request_of_document(value: &Value) -> Option<Request>
     ensures { result ≡ request_in (view value.now) }
 {
-    if is_publish_request(value) {
+    if is_word_alone(value, "publish") {
         return Some(Request::Publish);
+    }
+    if is_word_alone(value, "dump") {
+        return Some(Request::Dump);
+    }
+    if is_section_request(value, "load") {
+        return Some(Request::Load);
+    }
+    if is_section_request(value, "unload") {
+        return Some(Request::Unload);
     }
     set_field_request(value)
 }

@@ -185,211 +185,234 @@ fn the_program_has_the_greatest_limits(rt: HostRuntime) -> Result<(), Fail> {
     Ok(())
 }
 
-#[test]
-fn words_and_folders(rt: HostRuntime) -> Result<(), Fail> {
-    for words in [
-        [].as_slice(),
-        &["bake"],
-        &["session", "x"],
-        &["session", "session"],
-        &["Session"],
-        &[""],
-    ] {
+/// Words that are no form.
+const OTHER_WORDS: [&[&str]; 6] = [
+    &[],
+    &["bake"],
+    &["session", "x"],
+    &["session", "session"],
+    &["Session"],
+    &[""],
+];
+
+/// Projects that don't open, and no project.
+const OTHER_PROJECTS: [Option<&str>; 14] = [
+    None,
+    Some(""),
+    Some("{"),
+    Some("[]"),
+    Some(r#"{"assets":[],"scenes":[]}"#),
+    Some(r#"{"assets":[1],"scenes":[{"number":1,"objects":[]}]}"#),
+    Some(r#"{"assets":[],"scenes":[{"number":2,"objects":[]}]}"#),
+    Some(r#"{"assets":[],"scenes":[{"number":1,"objects":[]},{"number":1,"objects":[]}]}"#),
+    Some(r#"{"assets":[],"scenes":[{"number":1,"objects":[]}],"more":1}"#),
+    Some(
+        r#"{"assets":[],"scenes":[{"number":1,"objects":[{"components":{"Value":{"v":1.0}},"number":1,"parent":null,"section":null}]}]}"#,
+    ),
+    Some(
+        r#"{"assets":[],"scenes":[{"number":1,"objects":[{"components":{"Value":{"v":1}},"number":0,"parent":null,"section":null}]}]}"#,
+    ),
+    Some(
+        r#"{"assets":[],"scenes":[{"number":1,"objects":[{"components":{"Value":{"v":1}},"number":1,"parent":1,"section":null}]}]}"#,
+    ),
+    Some(
+        r#"{"assets":[],"scenes":[{"number":1,"objects":[{"components":{"Value":{"v":1}},"number":1,"parent":null,"section":0}]}]}"#,
+    ),
+    Some(
+        r#"{"assets":[],"scenes":[{"number":1,"objects":[{"components":{},"number":1,"parent":null,"section":null}]}]}"#,
+    ),
+];
+
+/// Whether all words that are no form give the usage line.
+fn words_end_well<T: Threads + Sync>(rt: &T, alloc: Global) -> Result<bool, AllocError> {
+    for words in &OTHER_WORDS {
         let case = Case {
             words,
             status: 2,
             output: USAGE,
             ..session(REQUESTS, USAGE)
         };
-        assert!(rt; ends_well(&rt, rt.alloc(), &case)?);
+        if !ends_well(rt, alloc, &case)? {
+            return Ok(false);
+        }
     }
-    let folders = [
-        None,
-        Some(""),
-        Some("{"),
-        Some("[]"),
-        Some(r#"{"assets":[],"scenes":[]}"#),
-        Some(r#"{"assets":[1],"scenes":[{"number":1,"objects":[]}]}"#),
-        Some(r#"{"assets":[],"scenes":[{"number":2,"objects":[]}]}"#),
-        Some(r#"{"assets":[],"scenes":[{"number":1,"objects":[]},{"number":1,"objects":[]}]}"#),
-        Some(r#"{"assets":[],"scenes":[{"number":1,"objects":[]}],"more":1}"#),
-        Some(
-            r#"{"assets":[],"scenes":[{"number":1,"objects":[{"components":{"Value":{"v":1.0}},"number":1,"parent":null,"section":null}]}]}"#,
-        ),
-        Some(
-            r#"{"assets":[],"scenes":[{"number":1,"objects":[{"components":{"Value":{"v":1}},"number":0,"parent":null,"section":null}]}]}"#,
-        ),
-        Some(
-            r#"{"assets":[],"scenes":[{"number":1,"objects":[{"components":{"Value":{"v":1}},"number":1,"parent":1,"section":null}]}]}"#,
-        ),
-        Some(
-            r#"{"assets":[],"scenes":[{"number":1,"objects":[{"components":{"Value":{"v":1}},"number":1,"parent":null,"section":0}]}]}"#,
-        ),
-        Some(
-            r#"{"assets":[],"scenes":[{"number":1,"objects":[{"components":{},"number":1,"parent":null,"section":null}]}]}"#,
-        ),
-    ];
-    for project in folders {
+    Ok(true)
+}
+
+/// Whether all folders that don't open are refused.
+fn folders_end_well<T: Threads + Sync>(rt: &T, alloc: Global) -> Result<bool, AllocError> {
+    for project in &OTHER_PROJECTS {
         let case = Case {
-            project,
+            project: *project,
             status: 3,
             output: REFUSED,
             ..session(REQUESTS, REFUSED)
         };
-        assert!(rt; ends_well(&rt, rt.alloc(), &case)?, "{project:?}");
+        if !ends_well(rt, alloc, &case)? {
+            return Ok(false);
+        }
     }
+    Ok(true)
+}
+
+#[test]
+fn words_and_folders(rt: HostRuntime) -> Result<(), Fail> {
+    assert!(rt; words_end_well(&rt, rt.alloc())?, "words");
+    assert!(rt; folders_end_well(&rt, rt.alloc())?, "folders");
     Ok(())
+}
+
+/// Inputs of a session on `PROJECT`, each with its output.
+const INPUTS: [(&str, &str); 14] = [
+    ("", ""),
+    ("\n", "E2 NotYet\n"),
+    ("{\n", "E2 NotYet\n"),
+    (PUBLISH, "ok published 1 changed 1 reloaded 0\n"),
+    (
+        "{\"do\":\"publish\",\"more\":1}\n[]\n{\"do\":\"publish\"} \n",
+        "E2 NotYet\nE2 NotYet\nok published 1 changed 1 reloaded 0\n",
+    ),
+    (
+        r#"{"do":"set_field","field":"v","kind":"Value","object":1,"scene":2,"value":1}"#,
+        "E2 NotYet\n",
+    ),
+    (
+        r#"{"do":"set_field","field":"w","kind":"Value","object":1,"scene":1,"value":1}"#,
+        "E2 NotYet\n",
+    ),
+    (
+        r#"{"do":"set_field","field":"v","kind":"Other","object":1,"scene":1,"value":1}"#,
+        "E2 NotYet\n",
+    ),
+    (
+        r#"{"do":"set_field","field":"v","kind":"Value","object":0,"scene":1,"value":1}"#,
+        "E2 NotYet\n",
+    ),
+    (
+        r#"{"do":"set_field","field":"v","kind":"Value","object":4294967296,"scene":1,"value":1}"#,
+        "E2 NotYet\n",
+    ),
+    (
+        r#"{"do":"set_field","field":"v","kind":"Value","object":1,"scene":1,"value":1.5}"#,
+        "E2 NotYet\n",
+    ),
+    (
+        r#"{"do":"set_field","field":"v","kind":"Value","object":1,"scene":1,"value":9223372036854775808}"#,
+        "E2 NotYet\n",
+    ),
+    (
+        r#"{"do":"set_field","field":"v","kind":"Value","object":4294967295,"scene":1,"value":-9223372036854775808}"#,
+        "E5 NoObject\n",
+    ),
+    (
+        r#"{"value":-1,"scene":1,"object":1,"kind":"Value","field":"v","do":"set_field"}"#,
+        "ok rebaked 1 of 1\n",
+    ),
+];
+
+/// Plays the inputs, and answers the first whose output is another.
+fn other_output<T: Threads + Sync>(
+    rt: &T,
+    alloc: Global,
+) -> Result<Option<&'static str>, AllocError> {
+    for (input, output) in &INPUTS {
+        if !ends_well(rt, alloc, &session(input, output))? {
+            return Ok(Some(*input));
+        }
+    }
+    Ok(None)
+}
+
+/// Whether a request with so many spaces behind it is answered so.
+fn padded_ends_well<T: Threads + Sync>(
+    rt: &T,
+    alloc: Global,
+    spaces: usize,
+    reply: &str,
+) -> Result<bool, AllocError> {
+    let mut line = String::from_str(alloc, PUBLISH)?;
+    for _ in 0..spaces {
+        line.push(' ')?;
+    }
+    ends_well(rt, alloc, &session(line.as_str(), reply))
 }
 
 #[test]
 fn lines(rt: HostRuntime) -> Result<(), Fail> {
-    let published = "ok published 1 changed 1 reloaded 0\n";
-    let cases = [
-        session("", ""),
-        session("\n", "E2 NotYet\n"),
-        session("{\n", "E2 NotYet\n"),
-        session(PUBLISH, published),
-        session(
-            "{\"do\":\"publish\",\"more\":1}\n[]\n{\"do\":\"publish\"} \n",
-            "E2 NotYet\nE2 NotYet\nok published 1 changed 1 reloaded 0\n",
-        ),
-        session(
-            r#"{"do":"set_field","field":"v","kind":"Value","object":1,"scene":2,"value":1}"#,
-            "E2 NotYet\n",
-        ),
-        session(
-            r#"{"do":"set_field","field":"w","kind":"Value","object":1,"scene":1,"value":1}"#,
-            "E2 NotYet\n",
-        ),
-        session(
-            r#"{"do":"set_field","field":"v","kind":"Other","object":1,"scene":1,"value":1}"#,
-            "E2 NotYet\n",
-        ),
-        session(
-            r#"{"do":"set_field","field":"v","kind":"Value","object":0,"scene":1,"value":1}"#,
-            "E2 NotYet\n",
-        ),
-        session(
-            r#"{"do":"set_field","field":"v","kind":"Value","object":4294967296,"scene":1,"value":1}"#,
-            "E2 NotYet\n",
-        ),
-        session(
-            r#"{"do":"set_field","field":"v","kind":"Value","object":1,"scene":1,"value":1.5}"#,
-            "E2 NotYet\n",
-        ),
-        session(
-            r#"{"do":"set_field","field":"v","kind":"Value","object":1,"scene":1,"value":9223372036854775808}"#,
-            "E2 NotYet\n",
-        ),
-        session(
-            r#"{"do":"set_field","field":"v","kind":"Value","object":4294967295,"scene":1,"value":-9223372036854775808}"#,
-            "E5 NoObject\n",
-        ),
-        session(
-            r#"{"value":-1,"scene":1,"object":1,"kind":"Value","field":"v","do":"set_field"}"#,
-            "ok rebaked 1 of 1\n",
-        ),
-        Case {
-            project: Some(NO_OBJECTS),
-            ..session(
-                REQUESTS,
-                "E5 NoObject\nok published 1 changed 1 reloaded 0\nE5 NoObject\nok published 2 changed 0 reloaded 0\n",
-            )
-        },
-    ];
-    for case in &cases {
-        assert!(rt; ends_well(&rt, rt.alloc(), case)?, "{:?}", case.input);
-    }
     let alloc = rt.alloc();
-    for (spaces, reply) in [(65_520usize, published), (65_521, "E2 NotYet\n")] {
-        let mut line = String::from_str(alloc, PUBLISH)?;
-        for _ in 0..spaces {
-            line.push(' ')?;
-        }
-        assert!(rt;
-            ends_well(&rt, alloc, &session(line.as_str(), reply))?,
-            "{spaces} spaces"
-        );
-    }
+    assert_eq!(rt; other_output(&rt, alloc)?, None);
+    let published = "ok published 1 changed 1 reloaded 0\n";
+    assert!(rt; padded_ends_well(&rt, alloc, 65_520, published)?, "65,536 bytes");
+    assert!(rt; padded_ends_well(&rt, alloc, 65_521, "E2 NotYet\n")?, "65,537 bytes");
+    let empty = Case {
+        project: Some(NO_OBJECTS),
+        ..session(
+            REQUESTS,
+            "E5 NoObject\nok published 1 changed 1 reloaded 0\nE5 NoObject\nok published 2 changed 0 reloaded 0\n",
+        )
+    };
+    assert!(rt; ends_well(&rt, alloc, &empty)?, "no objects");
     Ok(())
+}
+
+const TWO_LINES: &str = "{\"do\":\"publish\"}\n{\"do\":\"publish\"}\n";
+
+const ONE_REPLY: &str = "ok published 1 changed 1 reloaded 0\n";
+
+const TWO_REPLIES: &str =
+    "ok published 1 changed 1 reloaded 0\nok published 2 changed 0 reloaded 0\n";
+
+/// Limits on lines and bytes, an input, and the status and output of its session.
+const LIMITS: [(u32, u32, &str, u8, &str); 13] = [
+    (
+        2,
+        100,
+        "{\"do\":\"publish\"}\n{\"do\":\"publish\"}\n{\"do\":\"publish\"}\n",
+        5,
+        TWO_REPLIES,
+    ),
+    (2, 100, TWO_LINES, 0, TWO_REPLIES),
+    (
+        2,
+        100,
+        "{\"do\":\"publish\"}\n{\"do\":\"publish\"}",
+        0,
+        TWO_REPLIES,
+    ),
+    (0, 100, "", 0, ""),
+    (0, 100, "\n", 5, ""),
+    (9, 34, TWO_LINES, 0, TWO_REPLIES),
+    (9, 35, TWO_LINES, 0, TWO_REPLIES),
+    (9, 33, TWO_LINES, 5, ONE_REPLY),
+    (9, 17, TWO_LINES, 5, ONE_REPLY),
+    (9, 16, TWO_LINES, 5, ""),
+    (9, 0, "", 0, ""),
+    (9, 0, "\n", 5, ""),
+    (1, 17, TWO_LINES, 5, ONE_REPLY),
+];
+
+/// Plays the sessions under limits, and answers the first that ends otherwise: its limits.
+fn other_limits<T: Threads + Sync>(
+    rt: &T,
+    alloc: Global,
+) -> Result<Option<(u32, u32)>, AllocError> {
+    for (lines, bytes, input, status, output) in &LIMITS {
+        let case = Case {
+            lines: *lines,
+            bytes: *bytes,
+            status: *status,
+            ..session(input, output)
+        };
+        if !ends_well(rt, alloc, &case)? {
+            return Ok(Some((*lines, *bytes)));
+        }
+    }
+    Ok(None)
 }
 
 #[test]
 fn limits(rt: HostRuntime) -> Result<(), Fail> {
-    let three = "{\"do\":\"publish\"}\n{\"do\":\"publish\"}\n{\"do\":\"publish\"}\n";
-    let two = "{\"do\":\"publish\"}\n{\"do\":\"publish\"}\n";
-    let first = "ok published 1 changed 1 reloaded 0\n";
-    let replies = "ok published 1 changed 1 reloaded 0\nok published 2 changed 0 reloaded 0\n";
-    let cases = [
-        Case {
-            lines: 2,
-            status: 5,
-            ..session(three, replies)
-        },
-        Case {
-            lines: 2,
-            ..session(two, replies)
-        },
-        Case {
-            lines: 2,
-            ..session("{\"do\":\"publish\"}\n{\"do\":\"publish\"}", replies)
-        },
-        Case {
-            lines: 0,
-            ..session("", "")
-        },
-        Case {
-            lines: 0,
-            status: 5,
-            ..session("\n", "")
-        },
-        Case {
-            bytes: 34,
-            ..session(two, replies)
-        },
-        Case {
-            bytes: 35,
-            ..session(two, replies)
-        },
-        Case {
-            bytes: 33,
-            status: 5,
-            ..session(two, first)
-        },
-        Case {
-            bytes: 17,
-            status: 5,
-            ..session(two, first)
-        },
-        Case {
-            bytes: 16,
-            status: 5,
-            ..session(two, "")
-        },
-        Case {
-            bytes: 0,
-            ..session("", "")
-        },
-        Case {
-            bytes: 0,
-            status: 5,
-            ..session("\n", "")
-        },
-        Case {
-            lines: 1,
-            bytes: 17,
-            status: 5,
-            ..session(two, first)
-        },
-    ];
-    for case in &cases {
-        assert!(rt;
-            ends_well(&rt, rt.alloc(), case)?,
-            "{} lines, {} bytes",
-            case.lines,
-            case.bytes
-        );
-    }
+    assert_eq!(rt; other_limits(&rt, rt.alloc())?, None);
     Ok(())
 }
 
