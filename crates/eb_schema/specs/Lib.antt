@@ -3,3 +3,5 @@ pub mod Schemas
 pub mod SchemaForm
 pub mod SchemaFaults
 pub mod SchemaTests
+pub mod TypeOrder
+pub mod Rows
