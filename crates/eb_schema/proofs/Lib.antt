@@ -4,3 +4,6 @@ pub mod TypeOrderFacts
 pub mod RowFacts
 pub mod SetFacts
 pub mod RowLaws
+pub mod SoundFacts
+pub mod SchemaSound
+pub mod FoundTypes

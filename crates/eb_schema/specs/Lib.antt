@@ -5,3 +5,4 @@ pub mod SchemaFaults
 pub mod SchemaTests
 pub mod TypeOrder
 pub mod Rows
+pub mod SoundSchemas
