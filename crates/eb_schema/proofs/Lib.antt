@@ -1,2 +1,9 @@
 pub mod TableFacts
 pub mod MakingFacts
+pub mod TypeOrderFacts
+pub mod RowFacts
+pub mod SetFacts
+pub mod RowLaws
+pub mod SoundFacts
+pub mod SchemaSound
+pub mod FoundTypes

@@ -14,12 +14,12 @@ use Rattle.std.proofs.lemmas.Map.Lookups.{CmpEqualImpliesEq, exact_unsigned, exa
 use Rattle.std.proofs.lemmas.Option.{slice_get-get_or}
 use Rattle.eb_schema.specs.Tables.{Leads}
 
-swap_tests : {V : Type 0} (a b : Bool) (v w : V) (o : Option V) → (a ≡ true → b ≡ true → ⊥) → cond b (Some w) (cond a (Some v) o) ≡ cond a (Some v) (cond b (Some w) o)
+pub swap_tests : {V : Type 0} (a b : Bool) (v w : V) (o : Option V) → (a ≡ true → b ≡ true → ⊥) → cond b (Some w) (cond a (Some v) o) ≡ cond a (Some v) (cond b (Some w) o)
 swap_tests true true v w o never = absurd (never refl refl)
 swap_tests true false v w o never = refl
 swap_tests false b v w o never = refl
 
-one_test : {V : Type 0} (a b : Bool) (v w : V) (o : Option V) → a ≡ b → cond b (Some v) o ≡ cond a (Some v) (cond b (Some w) o)
+pub one_test : {V : Type 0} (a b : Bool) (v w : V) (o : Option V) → a ≡ b → cond b (Some v) o ≡ cond a (Some v) (cond b (Some w) o)
 one_test true true v w o same = refl
 one_test true false v w o same = absurd (true≢false same)
 one_test false true v w o same = absurd (true≢false (sym same))

@@ -3,10 +3,12 @@ ghost use Rattle.std.specs.Prelude.{◌≡◌, [], ◌∷◌, IfOk};
 ghost use Rattle.std.specs.Option.{option_copied};
 ghost use Rattle.serde_json.specs.View.{view};
 ghost use Rattle.eb_schema.specs.SchemaFaults.{Tells};
-ghost use Rattle.eb_schema.specs.SchemaTests.{schema_of};
+ghost use Rattle.eb_schema.specs.SchemaTests.{types_of, schema_of};
+ghost use Rattle.eb_schema.specs.SoundSchemas.{IsSchema};
 ghost use Rattle.eb_schema.specs.Schemas.{plain_field, plain_types, component_of, component_named, authoring_of, authoring_named};
 
 use crate::copies::copies_of;
+use crate::drafts::Lists;
 use crate::faults::SchemaFault;
 use crate::kinds::{Authoring, Component, Field, Kind, Mode};
 use crate::reading::DraftForm;
@@ -18,7 +20,8 @@ use serde_json::Value;
 use std::alloc::Global;
 use std::marker::Model;
 
-/// The schema of a project. Contracts see its three lists.
+/// The schema of a project. Contracts see its three lists, which are within their limits, with names and numbers
+/// that differ and copies that match.
 #[derive(Drop)]
 pub struct Schema {
     assets: Items<Field>,
@@ -28,10 +31,13 @@ pub struct Schema {
 
 impl Model for Schema {
     ghost use Rattle.eb_schema.specs.Schemas.{Types};
+    ghost use Rattle.eb_schema.specs.SoundSchemas.{IsSchema};
 
     ghost Value = { Types };
 
     ghost view = { λ s. record { assets = s.assets; authoring = s.authoring; components = s.components } };
+
+    ghost invariant = { λ s. IsSchema (record { assets = s.assets; authoring = s.authoring; components = s.components }) };
 }
 
 /// The one field of the plain schema's types, as a list.
@@ -48,32 +54,53 @@ fn plain_fields(alloc: Global) -> Result<Items<Field>, Memory>
     Ok(Items::of(fields))
 }
 
+/// The lists of the plain schema.
+#[tactic(auto, unfolding(crate::specs::Schemas::plain_types))]
+fn plain_lists(alloc: Global) -> Result<Lists, Memory>
+    ensures { IfOk result (λ lists. types_of lists ≡ plain_types) }
+{
+    let mut authoring = Vec::new(alloc);
+    authoring.push(Authoring {
+        number: AuthorNo::FIRST,
+        name: Text::of(alloc, b"Value")?,
+        copy: Some(TypeNo::FIRST),
+        fields: plain_fields(alloc)?,
+    })?;
+    let mut components = Vec::new(alloc);
+    components.push(Component {
+        number: TypeNo::FIRST,
+        name: Text::of(alloc, b"Value")?,
+        mode: Mode::Stored,
+        fields: plain_fields(alloc)?,
+    })?;
+    Ok(Lists {
+        assets: Items::new(alloc),
+        authoring: Items::of(authoring),
+        components: Items::of(components),
+    })
+}
+
 impl Schema {
+    /// The schema of these lists.
+    fn of(alloc: Global, lists: Lists) -> Result<Self, Memory>
+        requires { IsSchema (types_of lists) }
+        ensures { IfOk result (λ schema. schema ≡ types_of lists) }
+    {
+        Ok(Schema {
+            assets: lists.assets,
+            authoring: Table::of(alloc, lists.authoring)?,
+            components: Table::of(alloc, lists.components)?,
+        })
+    }
+
     /// The schema of the first projects: component type 1 `Value` with one field `v`, a whole number of
     /// 64 bits, stored, and authoring type 1 `Value` copied to it.
-    #[tactic(auto, unfolding(crate::specs::Schemas::plain_types))]
     pub fn plain(alloc: Global) -> Result<Self, Memory>
         ensures { IfOk result (λ schema. schema ≡ plain_types) }
     {
-        let mut authoring = Vec::new(alloc);
-        authoring.push(Authoring {
-            number: AuthorNo::FIRST,
-            name: Text::of(alloc, b"Value")?,
-            copy: Some(TypeNo::FIRST),
-            fields: plain_fields(alloc)?,
-        })?;
-        let mut components = Vec::new(alloc);
-        components.push(Component {
-            number: TypeNo::FIRST,
-            name: Text::of(alloc, b"Value")?,
-            mode: Mode::Stored,
-            fields: plain_fields(alloc)?,
-        })?;
-        Ok(Schema {
-            assets: Items::new(alloc),
-            authoring: Table::of(alloc, Items::of(authoring))?,
-            components: Table::of(alloc, Items::of(components))?,
-        })
+        let lists = plain_lists(alloc)?;
+        let schema = Schema::of(alloc, lists)?;
+        Ok(schema)
     }
 
     /// The schema that a document is. Its form is tested first, over the whole document; among the other
@@ -84,11 +111,8 @@ impl Schema {
     {
         let draft = DraftForm.read(alloc, 0, document)?;
         let lists = lists(alloc, &draft)?;
-        Ok(Schema {
-            assets: lists.assets,
-            authoring: Table::of(alloc, lists.authoring)?,
-            components: Table::of(alloc, lists.components)?,
-        })
+        let schema = Schema::of(alloc, lists)?;
+        Ok(schema)
     }
 
     /// The component type of this number. Takes no memory, and time by the logarithm of their count.
@@ -127,21 +151,24 @@ impl Schema {
 
     /// The fields of an asset. Takes no memory.
     pub fn asset_fields(&self) -> &[Field]
-        ensures { result.now ≡ self.now.assets }
+        ensures fields { result.now ≡ self.now.assets }
+        ensures sound { IsSchema self.now }
     {
         self.assets.items()
     }
 
     /// The component types, in the order of the document. Takes no memory.
     pub fn components(&self) -> &[Component]
-        ensures { result.now ≡ self.now.components }
+        ensures types { result.now ≡ self.now.components }
+        ensures sound { IsSchema self.now }
     {
         self.components.items()
     }
 
     /// The authoring types, in the order of the document. Takes no memory.
     pub fn authoring_types(&self) -> &[Authoring]
-        ensures { result.now ≡ self.now.authoring }
+        ensures types { result.now ≡ self.now.authoring }
+        ensures sound { IsSchema self.now }
     {
         self.authoring.items()
     }
