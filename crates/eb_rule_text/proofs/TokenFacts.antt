@@ -1,5 +1,5 @@
 -- How the tokens of a text go on behind the first.
-use Rattle.std.proofs.Common.{◌≡◌, ℕ, zero, suc, ◌+◌, ◌-◌, ◌<◌, ◌≤◌, List, [], ◌∷◌, ◌++◌, length, take, drop, Ok, Err, refl, ap, sym, ◌∙◌, append_assoc, append-nil, arith}
+use Rattle.std.proofs.Common.{◌≡◌, ℕ, zero, suc, ◌+◌, ◌-◌, ◌<◌, ◌≤◌, [], ◌∷◌, length, take, drop, Ok, Err, refl, ap, ◌∙◌, append_assoc, arith}
 use Rattle.eb_rule_text.specs.declared.lexemes.Lexed.{Lexed}
 use Rattle.eb_rule_text.specs.declared.lexemes.Lexeme.{Lexeme}
 use Rattle.eb_rule_text.specs.declared.lexing.Found.{Found}

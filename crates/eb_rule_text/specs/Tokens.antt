@@ -1,5 +1,5 @@
 -- The tokens of a text, and where they begin.
-use Rattle.std.specs.Prelude.{◌≡◌, ◌≢◌, ◌≤◌, ℕ, zero, suc, ◌+◌, ◌-◌, ◌^◌, min, Bool, true, false, not, cond, ◌&&◌, ◌||◌, if◌then◌else◌, ◌==◌, nat_le, List, [], ◌∷◌, ◌++◌, take, drop, map, slice_index, Option, Some, None, Result, Ok, Err, ℤ, pos, bytes_eq}
+use Rattle.std.specs.Prelude.{◌≡◌, ◌≢◌, ◌≤◌, ℕ, zero, suc, ◌+◌, ◌-◌, ◌^◌, min, Bool, true, false, not, ◌&&◌, ◌||◌, if◌then◌else◌, ◌==◌, nat_le, List, [], ◌∷◌, ◌++◌, take, drop, map, slice_index, Option, Some, None, Result, Ok, Err, ℤ, pos, bytes_eq}
 use Rattle.std.specs.List.{prefix_len}
 use Rattle.eb_base.specs.Digits.{below, digits_after}
 use Rattle.eb_base.specs.FixedPoint.{fixed_of}

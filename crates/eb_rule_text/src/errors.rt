@@ -65,3 +65,16 @@ impl From<Memory> for ReadError {
         ReadError::Memory
     }
 }
+
+/// Why a text has no tree.
+#[derive(Clone, Copy, Debug, PartialEq, Eq)]
+pub enum TextError {
+    /// Want of memory.
+    Memory,
+    /// No token begins at this byte, or the number that begins there is out of range.
+    Token(usize),
+    /// The token at this byte can't follow those before it, or the text ends here and must not.
+    Syntax(usize),
+    /// The token at this byte would open the 33rd level.
+    Depth(usize),
+}

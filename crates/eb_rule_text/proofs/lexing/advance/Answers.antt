@@ -1,4 +1,4 @@
-use Rattle.std.proofs.Common.{rules, refl, ap, sym, ◌∙◌, drop, ◌+◌}
+use Rattle.std.proofs.Common.{rules, ap, sym, ◌∙◌, drop, ◌+◌}
 use Rattle.eb_rule_text.specs.Tokens.{after, tokens_from}
 use Rattle.eb_rule_text.specs.declared.lexing.Found.TheVariants as found
 use Rattle.eb_rule_text.proofs.TokenFacts.{step_at, after_one}
