@@ -14,8 +14,9 @@ pub fn number_read(limit: u64, text: &[u8]) -> Option<u64>
     }
 }
 
-// The number that these digits go on to write after `start`, where it stays below the limit.
-pub(crate) fn digits_read(start: u128, limit: u128, text: &[u8]) -> Option<u128>
+/// The number that these digits go on to write after `start`, leading zeros allowed, where it is below the limit. None exactly
+/// where the text isn't digits alone or the number isn't below the limit. Takes no memory.
+pub fn digits_read(start: u128, limit: u128, text: &[u8]) -> Option<u128>
     requires small { limit ≤ 2 ^ 120 }
     requires room { start < 2 ^ 120 }
     ensures { result ≡ below limit (digits_after start text.now) }

@@ -17,7 +17,7 @@ pub mod texts;
 pub mod words;
 
 pub use calc::{Calc, CalcFault};
-pub use digits::number_read;
+pub use digits::{digits_read, number_read};
 pub use fixed::{fix_read, fix_write};
 pub use items::Items;
 pub use memory::Memory;

@@ -1,0 +1,4 @@
+mod Levels
+mod NameRuns
+mod TokenFacts
+mod Turns

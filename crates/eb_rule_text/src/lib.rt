@@ -1,0 +1,28 @@
+//! The text of the rule language: its tokens, its syntax trees, and the reader that makes the one of the other.
+#![tactic(auto)]
+
+mod blocks;
+mod cursor;
+mod cutting;
+pub mod errors;
+mod exprs;
+mod jobs;
+pub mod lexemes;
+pub mod lexing;
+pub mod marks;
+pub mod parsing;
+pub mod passes;
+mod queries;
+mod reads;
+pub mod trees;
+
+pub use errors::{ReadError, TextError, TokenError};
+pub use lexemes::{Lexed, Lexeme};
+pub use lexing::lex;
+pub use marks::Mark;
+pub use parsing::{parse_job, parse_rules};
+pub use passes::{Placed, read_job, read_rules};
+pub use trees::{
+    Add, Baker, Command, Context, Expr, FieldPath, Find, Init, JobTree, Link, Op, Query, Reach,
+    Read, Rule, RulesTree, Stmt, System, Target,
+};
