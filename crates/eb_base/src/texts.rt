@@ -41,6 +41,13 @@ impl Text {
         self.inner.as_slice()
     }
 
+    /// The bytes of the text, which is used up. Takes no memory.
+    pub fn into_vec(self) -> Vec<u8>
+        ensures { result.items ≡ self }
+    {
+        self.inner
+    }
+
     /// Whether these are the bytes of the text. Takes no memory.
     pub fn is(&self, bytes: &[u8]) -> bool
         ensures { IsTrue result ↔ (self.now ≡ bytes.now) }

@@ -3,7 +3,7 @@ ghost use Rattle.std.specs.Prelude.{◌≡◌, ◌≤◌, [], IfOk, OnOk, OnErr,
 ghost use Rattle.std.specs.Option.{option_copied};
 ghost use Rattle.std.specs.List.Sorted.{IsStrictlySortedBy};
 ghost use Rattle.std.specs.Ordering.{nat_cmp};
-ghost use Rattle.eb_schema.specs.Rows.{most_kinds, kinds_of, cell_of, takes_cell, put_cell};
+ghost use Rattle.eb_schema.specs.Rows.{IsRow, most_kinds, kinds_of, cell_of, takes_cell, put_cell};
 
 use crate::copies::{Copied, copies_of};
 use crate::type_order::{Typed, place};
@@ -82,6 +82,14 @@ impl Cell {
 }
 
 impl Row {
+    /// The row of these cells, which are in order. Takes no memory.
+    pub fn of(cells: Items<Cell>) -> Self
+        requires { IsRow cells }
+        ensures { result ≡ cells }
+    {
+        Row { cells }
+    }
+
     /// The row with no cells. Takes no memory.
     pub fn open(alloc: Global) -> Self
         ensures { result ≡ [] }

@@ -1,23 +1,30 @@
 -- The session as a machine: a line and a state give a reply, a new state and the files of the folder.
-use Rattle.std.specs.Prelude.{ℕ, ◌+◌, ◌++◌, ℤ, Bool, true, false, not, Option, None, Some, List, length, codes}
+use Rattle.std.specs.Prelude.{ℕ, ◌+◌, ◌++◌, ℤ, Bool, true, false, not, Option, None, Some, option_map, List, length, codes}
 use Rattle.std.specs.Fmt.{decimal}
-use Rattle.std.specs.FinMap.{insert}
+use Rattle.std.specs.FinMap.{insert, len}
 use Rattle.std.specs.Str.{bytes_eq}
 use Rattle.eb_outside.specs.Shelves.{Files}
 use Rattle.eb_schema.specs.Schemas.{plain_types}
+use Rattle.eb_file.specs.declared.images.Image.{Image}
 use Rattle.eb_file.specs.Spelling.{spelling}
-use Rattle.eb_session.specs.Objects.{Objects, value_of, with_value, image_of}
+use Rattle.eb_world.specs.Worlds.{Live, tagged}
+use Rattle.eb_query.specs.EntityText.{entity_lines}
+use Rattle.eb_stream.specs.Loading.{loaded, unloaded}
+use Rattle.eb_session.specs.Objects.{Objects, value_of, with_value, image_of, the_place}
 use Rattle.eb_session.specs.Requests.{request_of}
-use Rattle.eb_session.specs.Replies.{rebaked_text, published_text, no_object_text, not_yet_text}
+use Rattle.eb_session.specs.Replies.{rebaked_text, published_text, loaded_text, unloaded_text, dumped_text, no_section_text, already_loaded_text, not_loaded_text, no_object_text, not_yet_text}
 use Rattle.eb_session.specs.declared.requests.Request.{Request}
-use Rattle.eb_session.specs.declared.requests.Request.TheVariants.{Publish, SetField}
+use Rattle.eb_session.specs.declared.requests.Request.TheVariants.{Publish, SetField, Load, Unload, Dump}
 
--- the project, the number of the last publication (0 before the first), and the bytes of section 1:0 as
--- last published
+-- The project, the number of the last publication (0 before the first), the image of section 1:0 as last
+-- published, whether it is loaded, what lives in the world, and how many entities were ever made there.
 pub record State : Type 0 where
   pub objects : Objects
   pub generation : ℕ
-  pub published : Option (List ℕ)
+  pub published : Option Image
+  pub is_loaded : Bool
+  pub live : Live
+  pub made : ℕ
 
 pub record Step : Type 0 where
   pub reply : List ℕ
@@ -27,40 +34,92 @@ pub record Step : Type 0 where
 abbrev pub step : List ℕ → State → Files → Step
 step reply state files = record { reply = reply; state = state; files = files }
 
--- what baking the present project from nothing puts into the file of section 1:0
-unfoldable pub section_bytes : Objects → List ℕ
-section_bytes objects = spelling plain_types (image_of objects)
+-- the bytes that a section's file has
+unfoldable pub bytes_of : Image → List ℕ
+bytes_of image = spelling plain_types image
 
 -- the name of the file of section 1:0 that a publication writes
 unfoldable pub section_name : ℕ → List ℕ
 section_name generation = codes "g" ++ decimal generation ++ codes "-1-0.sec"
 
--- whether these bytes differ from the published ones, or none are published
-abbrev pub is_changed : Option (List ℕ) → List ℕ → Bool
-is_changed None bytes = true
-is_changed (Some published) bytes = not (bytes_eq published bytes)
+-- ---- publications
 
--- a publication that changes the section writes its file, under the new generation
-abbrev pub publication : Bool → List ℕ → ℕ → State → Files → Step
-publication true bytes generation state files =
-    step (published_text generation 1) (record { objects = state.objects; generation = generation; published = Some bytes }) (insert files (section_name generation) bytes)
-publication false bytes generation state files =
-    step (published_text generation 0) (record { objects = state.objects; generation = generation; published = state.published }) files
+-- whether these bytes differ from the published ones, or none are published
+abbrev pub is_changed : Option Image → List ℕ → Bool
+is_changed None bytes = true
+is_changed (Some image) bytes = not (bytes_eq (bytes_of image) bytes)
+
+-- the state once this image is published
+abbrev pub with_published : State → ℕ → Image → State
+with_published state generation image =
+    record { objects = state.objects; generation = generation; published = Some image; is_loaded = state.is_loaded; live = state.live; made = state.made }
+
+-- the state with the section loaded from this image, in place of the one that was loaded
+abbrev pub refreshed : Bool → Image → State → State
+refreshed false image state = state
+refreshed true image state =
+    record { objects = state.objects; generation = state.generation; published = state.published; is_loaded = true; live = loaded (unloaded state.live the_place) image; made = state.made + length image.rows }
+
+abbrev pub times_loaded : Bool → ℕ
+times_loaded false = 0
+times_loaded true = 1
+
+-- A publication that changes the section writes its file under the new generation, and loads it again where it
+-- is loaded.
+abbrev pub publication : Bool → Image → ℕ → State → Files → Step
+publication true image generation state files =
+    step (published_text generation 1 (times_loaded state.is_loaded)) (refreshed state.is_loaded image (with_published state generation image)) (insert files (section_name generation) (bytes_of image))
+publication false image generation state files =
+    step (published_text generation 0 0)
+    (record { objects = state.objects; generation = generation; published = state.published; is_loaded = state.is_loaded; live = state.live; made = state.made }) files
 
 unfoldable pub published : State → Files → Step
 published state files =
-    publication (is_changed state.published (section_bytes state.objects)) (section_bytes state.objects) (state.generation + 1) state files
+    publication (is_changed state.published (bytes_of (image_of state.objects))) (image_of state.objects) (state.generation + 1) state files
+
+-- ---- edits
 
 -- the value that is there now is replaced; where there is none, the edit is refused
 abbrev pub field_set : Option ℤ → ℕ → ℤ → State → Files → Step
 field_set None object value state files = step no_object_text state files
 field_set (Some old) object value state files =
-    step (rebaked_text (length state.objects)) (record { objects = with_value state.objects object value; generation = state.generation; published = state.published }) files
+    step (rebaked_text (length state.objects))
+    (record { objects = with_value state.objects object value; generation = state.generation; published = state.published; is_loaded = state.is_loaded; live = state.live; made = state.made }) files
+
+-- ---- the world
+
+-- the state with another world
+abbrev pub with_world : State → Bool → Live → ℕ → State
+with_world state is_loaded live made =
+    record { objects = state.objects; generation = state.generation; published = state.published; is_loaded = is_loaded; live = live; made = made }
+
+-- the section comes into the world as it was last published
+abbrev pub load : Option Image → Bool → State → Files → Step
+load None is_loaded state files = step no_section_text state files
+load (Some image) true state files = step already_loaded_text state files
+load (Some image) false state files =
+    step (loaded_text (length image.rows)) (with_world state true (loaded state.live image) (state.made + length image.rows)) files
+
+-- the section leaves the world
+abbrev pub unload : Option Image → Bool → State → Files → Step
+unload None is_loaded state files = step no_section_text state files
+unload (Some image) false state files = step not_loaded_text state files
+unload (Some image) true state files =
+    step (unloaded_text (length (tagged state.live the_place))) (with_world state false (unloaded state.live the_place) state.made) files
+
+-- every entity of the world, ascending by name
+abbrev pub dumped : State → Files → Step
+dumped state files = step (dumped_text (entity_lines plain_types state.live) (len state.live)) state files
+
+-- ---- lines
 
 abbrev pub performed : Option Request → State → Files → Step
 performed None state files = step not_yet_text state files
 performed (Some Publish) state files = published state files
 performed (Some (SetField object value)) state files = field_set (value_of state.objects object) object value state files
+performed (Some Load) state files = load state.published state.is_loaded state files
+performed (Some Unload) state files = unload state.published state.is_loaded state files
+performed (Some Dump) state files = dumped state files
 
 -- a line and its answer
 unfoldable pub answered : List ℕ → State → Files → Step

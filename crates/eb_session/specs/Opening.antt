@@ -1,6 +1,6 @@
 -- The state in which a session begins, from the files of the folder.
 use Rattle.std.specs.Prelude.{◌≡◌, ℕ, Option, None, Some, Result, Ok, Err, List, codes, option_map, option_and_then, ⊤}
-use Rattle.std.specs.FinMap.{get}
+use Rattle.std.specs.FinMap.{get, empty}
 use Rattle.eb_outside.specs.Shelves.{Files}
 use Rattle.eb_json.specs.Documents.{document_of}
 use Rattle.eb_session.specs.Objects.{Objects}
@@ -10,9 +10,9 @@ use Rattle.eb_session.specs.Machine.{State}
 use Rattle.eb_session.specs.declared.errors.OpenEnd.{OpenEnd}
 use Rattle.eb_session.specs.declared.errors.OpenEnd.TheVariants.{Memory, Shelf, Refused}
 
--- nothing is published
+-- nothing is published, and nothing lives
 abbrev pub first_state : Objects → State
-first_state objects = record { objects = objects; generation = 0; published = None }
+first_state objects = record { objects = objects; generation = 0; published = None; is_loaded = false; live = empty; made = 0 }
 
 -- the objects that the bytes of a project spell
 unfoldable pub objects_of : Option (List ℕ) → Option Objects
