@@ -73,6 +73,9 @@ sorted_mapped : {K X Y : Type 0} (R : K → K → Ordering) (f : X → Y) (es : 
 sorted_mapped R f [] = refl
 sorted_mapped R f (e ∷ es) = ap (λ b. b && is_sorted R (map (λ d. (d.0, f d.1)) es)) (below_mapped R f e.0 es) ∙ ap (λ b. below_all R e.0 es && b) (sorted_mapped R f es)
 
+pub entries-map_values : {K X Y : Type 0} {R : K → K → Ordering} (f : X → Y) (m : FinMap R X) → entries (map_values f m) ≡ map {B = K × Y} (λ (e : K × X). (e.0, f e.1)) (entries m)
+entries-map_values {R = R} f m = entries-from_sorted R _ (subst T (sym (sorted_mapped R f (entries m))) (entries_sorted m))
+
 map_cond : {X Y : Type 0} (f : X → Y) (b : Bool) (x : X) (o : Option X) → cond b (Some (f x)) (option_map f o) ≡ option_map f (cond b (Some x) o)
 map_cond f true x o = refl
 map_cond f false x o = refl

@@ -1,9 +1,10 @@
 // A list with room for more: values go into it without asking for memory, so that what comes after the
 // request for room can't fail.
-ghost use Rattle.std.specs.Prelude.{◌≡◌, ◌-◌, ◌<◌, ◌≤◌, [], ◌∷◌, ◌++◌, IfOk};
+ghost use Rattle.std.specs.Prelude.{◌≡◌, ◌-◌, ◌<◌, ◌≤◌, [], ◌∷◌, ◌++◌, IfOk, OnOk};
 
 use crate::items::Items;
 use crate::memory::Memory;
+use std::alloc::Global;
 use std::marker::Model;
 
 /// A list of values with room for more of them. Contracts see its items, and how many more there is room for.
@@ -36,6 +37,24 @@ impl<T: Drop> Reserved<T> {
 }
 
 impl<T> Reserved<T> {
+    /// The empty list. Takes no memory.
+    pub fn new(alloc: Global) -> Self
+        ensures { result.items ≡ [] }
+    {
+        Reserved {
+            inner: Vec::new(alloc),
+        }
+    }
+
+    /// Makes room for at least so many more values. The values stay, after want of memory too.
+    pub fn reserve(&mut self, count: usize) -> Result<(), Memory>
+        ensures items { self.new.items ≡ self.old.items }
+        ensures room { OnOk result (count ≤ self.new.room) }
+    {
+        self.inner.reserve(count)?;
+        Ok(())
+    }
+
     /// How many more values there is room for. Takes no memory.
     pub fn room(&self) -> usize
         ensures { result ≡ self.now.room }

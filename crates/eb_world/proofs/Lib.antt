@@ -1,0 +1,10 @@
+pub mod Hashed
+pub mod SectionFacts
+pub mod MapFacts
+pub mod RowFacts
+pub mod Creating
+pub mod Naming
+pub mod Shown
+pub mod Dropping
+pub mod Soundness
+pub mod Seats

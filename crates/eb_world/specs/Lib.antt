@@ -1,0 +1,4 @@
+-- What the contracts of this crate say.
+pub mod Worlds
+pub mod Tables
+pub mod Beings
