@@ -2,7 +2,7 @@
 use Rattle.std.specs.Prelude.{◌≡◌, ℕ, ◌+◌, ◌<◌, ◌≤◌, ◌^◌, Option, None, Some, Result, Ok, Err, List, [], ◌∷◌, length, map, All, ⊤}
 use Rattle.std.specs.List.Sorted.{IsStrictlySortedBy}
 use Rattle.std.specs.Ordering.{nat_cmp}
-use Rattle.std.specs.FinMap.{get, insert, len}
+use Rattle.std.specs.FinMap.{FinMap, get, insert, len}
 use Rattle.eb_base.specs.declared.names.Place.{Place}
 use Rattle.eb_base.specs.Names.{name_cmp}
 use Rattle.eb_schema.specs.declared.rows.Val.{Val}
@@ -63,9 +63,9 @@ IsNumber (stored.Link l) = ⊥
 abbrev pub HasNumbersAlone : Image → Type 0
 HasNumbersAlone image = All (λ row. All (λ (c : StoredCell). All IsNumber c.values) row.cells) image.rows
 
--- nothing lives under the row's name
-abbrev pub IsNew : Live → ImageRow → Type 0
-IsNew live row = get live row.name ≡ None
+-- the map has nothing under the row's name
+abbrev pub IsNew : {X : Type 0} → FinMap name_cmp X → ImageRow → Type 0
+IsNew map row = get map row.name ≡ None
 
 -- Why a load ends as it does, where the world would have so many entities.
 abbrev pub LoadEnds : Result ℕ LoadFault → ℕ → Type 0
@@ -81,5 +81,6 @@ pub record Creates (w : World) (stored : List ImageRow) (rows : List (List Cell)
   pub spare : w.spare.kinds ≡ map kinds_of rows
   pub order : IsStrictlySortedBy name_cmp (names_of stored)
   pub new : All (IsNew w.live) stored
+  pub unhandled : All (IsNew w.handles) stored
   pub few : len w.live + length stored ≤ most_live
   pub serials : w.made + length stored < 2 ^ 62

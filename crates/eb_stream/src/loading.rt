@@ -26,8 +26,8 @@ fn create_all(world: &mut World, stored: &[ImageRow], rows: &[Row])
     ensures types { world.new.types ≡ world.old.types }
     ensures handles { (name : Name) (entity : Entity) → finite.get world.old.handles name ≡ Some entity → finite.get world.new.handles name ≡ Some entity }
 {
-    for (stored, row) in stored.iter().zip(rows) {
-        world.create_reserved(stored.name, row);
+    for at in 0..stored.len() {
+        world.create_reserved(stored[at].name, &rows[at]);
     }
 }
 
@@ -48,6 +48,7 @@ pub fn load(alloc: Global, world: &mut World, image: &Image) -> Result<u32, Load
     ensures none_made { OnErr result (world.new.made ≡ world.old.made) }
     ensures types { world.new.types ≡ world.old.types }
 {
+    world.is_whole();
     let stored = image.rows.items();
     let count = world.live() as usize + stored.len();
     if count > MOST_LIVE {

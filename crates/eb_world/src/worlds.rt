@@ -161,9 +161,10 @@ impl World {
         })
     }
 
-    /// How many entities live. Takes no memory.
+    /// How many entities live, at most 262,144. Takes no memory.
     pub fn live(&self) -> u32
-        ensures { result ≡ finite.len self.now.live }
+        ensures count { result ≡ finite.len self.now.live }
+        ensures few { result ≤ most_live }
     {
         self.beings.len() as u32
     }
