@@ -2,6 +2,7 @@
 //! rows of entities, which have cells of these types.
 #![tactic(auto)]
 
+mod authoring_drafts;
 mod copies;
 mod drafts;
 pub mod faults;
