@@ -26,6 +26,8 @@ pub use type_sets::{TypeSet, TypeSetFault};
 #[cfg(test)]
 mod fixture;
 #[cfg(test)]
+mod refusal_tests;
+#[cfg(test)]
 mod row_tests;
 #[cfg(test)]
 mod tests;
