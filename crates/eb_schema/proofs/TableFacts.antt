@@ -1,18 +1,20 @@
 -- Indices of a list by number and by name: what one insert does to them.
-use Rattle.std.proofs.Common.{◌≡◌, ℕ, suc, ◌+◌, ◌-◌, ◌<◌, ◌≤◌, List, [], ◌∷◌, length, get_or, drop, Bool, true, false, cond, nat_eq, Option, Some, Ordering, Less, Equal, Greater, is_eq, nat_cmp, refl, sym, ap, ◌∙◌, add-one, drop-cons, true≢false, arith, BTreeMap, Vec, Global}
+use Rattle.std.proofs.Common.{◌≡◌, ℕ, zero, suc, ◌+◌, ◌-◌, ◌<◌, ◌≤◌, List, [], ◌∷◌, length, get_or, take, drop, Bool, true, false, cond, nat_eq, Option, Some, None, Ordering, Less, Equal, Greater, is_eq, nat_cmp, refl, sym, ap, ◌∙◌, drop-cons, zero-add, true≢false, arith, BTreeMap, Vec, Global}
+use Rattle.std.specs.Prelude.{◌||◌, option_map}
 use Rattle.std.specs.Str.{bytes_eq}
-use Rattle.std.specs.Cmp.{nat_cmp_total}
+use Rattle.std.specs.Cmp.{IsTotalOrder, tied_itself, nat_cmp_total}
 use Rattle.std.specs.Cmp.Lexicographic.{slice_cmp, nat_list_cmp_total}
-use Rattle.std.proofs.lemmas.Map.Text.{is_eq-slice_cmp}
-use Rattle.std.specs.List.{slice_get, find}
+use Rattle.std.specs.List.{slice_get, find, list_any}
 use Rattle.std.specs.Option.{option_and_then}
 use Rattle.std.specs.Map.{lookup}
 use Rattle.std.specs.Ordering.{match_ordering}
-use Rattle.std.specs.BTreeMap.{insert_entry, is_at, get, get_by}
-use Rattle.std.specs.Cmp.{IsTotalOrder, tied_itself}
+use Rattle.std.specs.BTreeMap.{insert_entry, is_at, get}
+use Rattle.std.proofs.Math.ListN.{drop_of_length-le}
+use Rattle.std.proofs.lemmas.Bool.Decides.{nat_tests}
+use Rattle.std.proofs.lemmas.Cmp.{nat_list_eq_equiv}
+use Rattle.std.proofs.lemmas.Map.Text.{is_eq-slice_cmp}
 use Rattle.std.proofs.lemmas.Map.Lookups.{CmpEqualImpliesEq, exact_unsigned, exact_bytes}
-use Rattle.std.proofs.lemmas.Option.{slice_get-get_or}
-use Rattle.eb_schema.specs.Tables.{Leads}
+use Rattle.eb_schema.specs.Tables.{first_from, stands_before, under_name}
 
 pub swap_tests : {V : Type 0} (a b : Bool) (v w : V) (o : Option V) → (a ≡ true → b ≡ true → ⊥) → cond b (Some w) (cond a (Some v) o) ≡ cond a (Some v) (cond b (Some w) o)
 swap_tests true true v w o never = absurd (never refl refl)
@@ -51,42 +53,97 @@ module _ {B K V : Type 0} (R : B → B → Ordering) (total : IsTotalOrder R) (e
   lookup-insert_entry [] = refl
   lookup-insert_entry (e ∷ es) = insert_where _ e es refl (lookup-insert_entry es)
 
-leads_where : {X : Type 0} (items others : List X) (test : X → Bool) (b : Bool) (i : ℕ) (x : X) (m : Option ℕ) → test x ≡ b → slice_get items i ≡ Some x → Leads items test m others → Leads items test (cond b (Some i) m) (x ∷ others)
-leads_where items others test true i x m is at leads = at ∙ ap (λ b. cond b (Some x) (find test others)) (sym is)
-leads_where items others test false i x m is at leads = leads ∙ ap (λ b. cond b (Some x) (find test others)) (sym is)
+-- ---- the first of a list from its last part on
 
--- the index of one item more, which stands before the others
-pub leads_more : {X : Type 0} (items : List X) (test : X → Bool) (i : ℕ) (x : X) (m : Option ℕ) → i < length items → x ≡ get_or items i x → Leads items test m (drop (i + 1) items)
-    → Leads items test (cond (test x) (Some i) m) (drop i items)
-leads_more items test i x m lt is leads =
-    let here : drop i items ≡ x ∷ drop (i + 1) items = drop-cons items i x lt ∙ ap (λ y. y ∷ drop (suc i) items) (sym is) ∙ ap (λ n. x ∷ drop n items) (sym (add-one i)) in
-    leads_where items (drop (i + 1) items) test (test x) i x m refl (slice_get-get_or items i x lt ∙ ap Some (sym is)) leads ∙ ap (find test) (sym here)
+later_first : {X : Type 0} (test : X → Bool) (items : List X) (i : ℕ) (x : X) → 0 < i → i ≤ length items → x ≡ get_or items (i - 1) x
+    → first_from (i - 1) test (drop (i - 1) items) ≡ cond (test x) (Some (i - 1)) (first_from i test (drop i items))
+later_first test items i x most fits is =
+    let back : suc (i - 1) ≡ i = omega arith in
+    let here : drop (i - 1) items ≡ x ∷ drop i items = drop-cons items (i - 1) x (omega arith) ∙ ap (λ y. y ∷ drop (suc (i - 1)) items) (sym is) ∙ ap (λ n. x ∷ drop n items) back in
+    ap (first_from (i - 1) test) here ∙ ap (λ n. cond (test x) (Some (i - 1)) (first_from n test (drop i items))) back
 
 nat_tests_agree : (q k : ℕ) → is_eq (nat_cmp q k) ≡ nat_eq k q
 nat_tests_agree q k = grind arith
 
-module _ {X : Type 0} (items : List X) (i : ℕ) (x : X) (most : 0 < i) (fits : i ≤ length items) (is : x ≡ get_or items (i - 1) x) where
-  step : (test : X → Bool) (m : Option ℕ) → Leads items test m (drop i items) → Leads items test (cond (test x) (Some (i - 1)) m) (drop (i - 1) items)
-  step test m leads =
-      let back : i ≡ (i - 1) + 1 = omega arith in
-      leads_more items test (i - 1) x m (omega arith) is (leads ∙ ap (λ n. find test (drop n items)) back)
+-- one number more
+pub numbers_more : {X : Type 0} (items : List X) (i : ℕ) (x : X) → 0 < i → i ≤ length items → x ≡ get_or items (i - 1) x → (number_of : X → ℕ) (m n : BTreeMap ℕ ℕ)
+    → n.entries ≡ insert_entry nat_cmp m.entries (number_of x) (i - 1)
+    → ((q : ℕ) → get nat_cmp m q ≡ first_from i (λ y. nat_eq (number_of y) q) (drop i items)) → (q : ℕ) → get nat_cmp n q ≡ first_from (i - 1) (λ y. nat_eq (number_of y) q) (drop (i - 1) items)
+numbers_more items i x most fits is number_of m n put firsts q =
+    ap (lookup (is_at (nat_cmp q))) put ∙ lookup-insert_entry nat_cmp nat_cmp_total exact_unsigned (λ k. k) q (number_of x) (i - 1) m.entries
+    ∙ ap (λ b. cond b (Some (i - 1)) (get nat_cmp m q)) (nat_tests_agree q (number_of x)) ∙ ap (cond (nat_eq (number_of x) q) (Some (i - 1))) (firsts q)
+    ∙ sym (later_first (λ y. nat_eq (number_of y) q) items i x most fits is)
 
-  pub numbers_more : (number_of : X → ℕ) (m n : BTreeMap ℕ ℕ) → n.entries ≡ insert_entry nat_cmp m.entries (number_of x) (i - 1)
-      → ((q : ℕ) → Leads items (λ y. nat_eq (number_of y) q) (get nat_cmp m q) (drop i items)) → (q : ℕ) → Leads items (λ y. nat_eq (number_of y) q) (get nat_cmp n q) (drop (i - 1) items)
-  numbers_more number_of m n put leads q =
-      let reads : get nat_cmp n q ≡ cond (is_eq (nat_cmp q (number_of x))) (Some (i - 1)) (get nat_cmp m q) =
-      ap (lookup (is_at (nat_cmp q))) put ∙ lookup-insert_entry nat_cmp nat_cmp_total exact_unsigned (λ k. k) q (number_of x) (i - 1) m.entries in
-      ap (option_and_then (slice_get items)) (reads ∙ ap (λ b. cond b (Some (i - 1)) (get nat_cmp m q)) (nat_tests_agree q (number_of x)))
-      ∙ step (λ y. nat_eq (number_of y) q) (get nat_cmp m q) (leads q)
+-- an index put under a name
+pub name_put : (m n : BTreeMap (Vec ℕ Global) ℕ) (key : Vec ℕ Global) (name : List ℕ) (i : ℕ) → key.items ≡ name → n.entries ≡ insert_entry (λ a b. slice_cmp nat_cmp a.items b.items) m.entries key i
+    → (q : List ℕ) → under_name n q ≡ cond (bytes_eq q name) (Some i) (under_name m q)
+name_put m n key name i called put q =
+    ap (lookup (is_at (λ (k : Vec ℕ Global). slice_cmp nat_cmp q k.items))) put
+    ∙ lookup-insert_entry (slice_cmp nat_cmp) nat_list_cmp_total exact_bytes (λ (k : Vec ℕ Global). k.items) q key i m.entries
+    ∙ ap (λ b. cond b (Some i) (under_name m q)) (is_eq-slice_cmp q key.items ∙ ap (bytes_eq q) called)
 
-  pub names_more : (name_of : X → List ℕ) (m n : BTreeMap (Vec ℕ Global) ℕ) (name : Vec ℕ Global) → name.items ≡ name_of x
-      → n.entries ≡ insert_entry (λ a b. slice_cmp nat_cmp a.items b.items) m.entries name (i - 1)
-      → ((q : List ℕ) → Leads items (λ y. bytes_eq q (name_of y)) (get_by (λ k. slice_cmp nat_cmp q k.items) m) (drop i items))
-      → (q : List ℕ) → Leads items (λ y. bytes_eq q (name_of y)) (get_by (λ k. slice_cmp nat_cmp q k.items) n) (drop (i - 1) items)
-  names_more name_of m n name called put leads q =
-      let read = get_by (λ (k : Vec ℕ Global). slice_cmp nat_cmp q k.items) m in
-      let reads : get_by (λ (k : Vec ℕ Global). slice_cmp nat_cmp q k.items) n ≡ cond (is_eq (slice_cmp nat_cmp q name.items)) (Some (i - 1)) read =
-      ap (lookup (is_at (λ (k : Vec ℕ Global). slice_cmp nat_cmp q k.items))) put
-      ∙ lookup-insert_entry (slice_cmp nat_cmp) nat_list_cmp_total exact_bytes (λ (k : Vec ℕ Global). k.items) q name (i - 1) m.entries in
-      ap (option_and_then (slice_get items)) (reads ∙ ap (λ b. cond b (Some (i - 1)) read) (is_eq-slice_cmp q name.items ∙ ap (bytes_eq q) called))
-      ∙ step (λ y. bytes_eq q (name_of y)) read (leads q)
+-- one name more
+pub names_more : {X : Type 0} (items : List X) (i : ℕ) (x : X) → 0 < i → i ≤ length items → x ≡ get_or items (i - 1) x → (test : List ℕ → X → Bool) (m n : List ℕ → Option ℕ)
+    → ((q : List ℕ) → n q ≡ cond (test q x) (Some (i - 1)) (m q)) → ((q : List ℕ) → m q ≡ first_from i (test q) (drop i items)) → (q : List ℕ) → n q ≡ first_from (i - 1) (test q) (drop (i - 1) items)
+names_more items i x most fits is test m n put firsts q = put q ∙ ap (cond (test q x) (Some (i - 1))) (firsts q) ∙ sym (later_first (test q) items i x most fits is)
+
+-- none before a list of none
+pub no_first : {X : Type 0} (test : X → Bool) (items : List X) (i : ℕ) → length items ≤ i → first_from i test (drop i items) ≡ None
+no_first test items i le = ap (first_from i test) (drop_of_length-le items le)
+
+-- ---- what the first says of the list
+
+shifted_where : (b : Bool) (i : ℕ) (o p : Option ℕ) → o ≡ option_map suc p → cond b (Some (suc i)) o ≡ option_map suc (cond b (Some i) p)
+shifted_where true i o p later = refl
+shifted_where false i o p later = later
+
+shifted : {X : Type 0} (test : X → Bool) (i : ℕ) (xs : List X) → first_from (suc i) test xs ≡ option_map suc (first_from i test xs)
+shifted test i [] = refl
+shifted test i (x ∷ xs) = shifted_where (test x) i (first_from (suc (suc i)) test xs) (first_from (suc i) test xs) (shifted test (suc i) xs)
+
+behind : {X : Type 0} (x : X) (xs : List X) (o : Option ℕ) → option_and_then (slice_get (x ∷ xs)) (option_map suc o) ≡ option_and_then (slice_get xs) o
+behind x xs None = refl
+behind x xs (Some i) = refl
+
+found_where : {X : Type 0} (b : Bool) (x : X) (xs : List X) (o p : Option ℕ) (found : Option X) → o ≡ option_map suc p → option_and_then (slice_get xs) p ≡ found → option_and_then (slice_get (x ∷ xs)) (cond b (Some 0) o) ≡ cond b (Some x) found
+found_where true x xs o p found is later = refl
+found_where false x xs o p found is later = ap (option_and_then (slice_get (x ∷ xs))) is ∙ behind x xs p ∙ later
+
+-- the item at the first index is the first item
+pub first_found : {X : Type 0} (test : X → Bool) (xs : List X) → option_and_then (slice_get xs) (first_from 0 test xs) ≡ find test xs
+first_found test [] = refl
+first_found test (x ∷ xs) = found_where (test x) x xs (first_from 1 test xs) (first_from 0 test xs) (find test xs) (shifted test 0 xs) (first_found test xs)
+
+not_before : {X : Type 0} (test : X → Bool) (i j : ℕ) (xs : List X) → j ≤ i → stands_before (first_from i test xs) j ≡ false
+not_before test i j [] le = refl
+not_before test i j (x ∷ xs) le = not_where (test x) (not_before test (suc i) j xs (omega arith))
+  where
+    not_where : (b : Bool) → stands_before (first_from (suc i) test xs) j ≡ false → stands_before (cond b (Some i) (first_from (suc i) test xs)) j ≡ false
+    not_where true later = grind (arith, nat_tests)
+    not_where false later = later
+
+before_where : (b : Bool) (i n : ℕ) (o : Option ℕ) (rest : Bool) → stands_before o (i + suc n) ≡ rest → stands_before (cond b (Some i) o) (i + suc n) ≡ (b || rest)
+before_where true i n o rest later = grind (arith, nat_tests)
+before_where false i n o rest later = later
+
+-- the first stands before an index exactly where one before that index passes
+any_before : {X : Type 0} (test : X → Bool) (i n : ℕ) (xs : List X) → stands_before (first_from i test xs) (i + n) ≡ list_any test (take n xs)
+any_before test i zero xs = not_before test i (i + zero) xs (omega arith)
+any_before test i (suc n) [] = refl
+any_before test i (suc n) (x ∷ xs) =
+    before_where (test x) i n (first_from (suc i) test xs) (list_any test (take n xs))
+    (ap (stands_before (first_from (suc i) test xs)) (omega arith) ∙ any_before test (suc i) n xs)
+
+pub any_within : {X : Type 0} (test : X → Bool) (n : ℕ) (xs : List X) → stands_before (first_from 0 test xs) n ≡ list_any test (take n xs)
+any_within test n xs = ap (stands_before (first_from 0 test xs)) (sym (zero-add n)) ∙ any_before test 0 n xs
+
+pub any_same : {X : Type 0} (p q : X → Bool) → ((x : X) → p x ≡ q x) → (xs : List X) → list_any p xs ≡ list_any q xs
+any_same p q same [] = refl
+any_same p q same (x ∷ xs) = rw (same x, any_same p q same xs) refl
+
+pub find_same : {X : Type 0} (p q : X → Bool) → ((x : X) → p x ≡ q x) → (xs : List X) → find p xs ≡ find q xs
+find_same p q same [] = refl
+find_same p q same (x ∷ xs) = rw (same x, find_same p q same xs) refl
+
+pub texts_turned : (a b : List ℕ) → bytes_eq a b ≡ bytes_eq b a
+texts_turned a b = nat_list_eq_equiv.symm a b

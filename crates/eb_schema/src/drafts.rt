@@ -1,5 +1,6 @@
 // A schema's document that has its form and isn't tested further: each part that a refusal can name has its place.
 use crate::kinds::{Authoring, Component, Field, Mode};
+use crate::tables::Listed;
 use eb_base::{AuthorNo, Items, Text, TypeNo};
 
 /// A part of a document, and the place of its node.
@@ -56,4 +57,32 @@ pub struct Lists {
     pub assets: Items<Field>,
     pub authoring: Items<Authoring>,
     pub components: Items<Component>,
+}
+
+impl Listed for DraftComponent {
+    ghost number_of = { λ d. d.number.value };
+
+    ghost name_of = { λ d. d.name.value };
+
+    fn number(&self) -> u8 {
+        self.number.value.number()
+    }
+
+    fn name(&self) -> &[u8] {
+        self.name.value.bytes()
+    }
+}
+
+impl Listed for DraftAuthoring {
+    ghost number_of = { λ d. d.number.value };
+
+    ghost name_of = { λ d. d.name.value };
+
+    fn number(&self) -> u8 {
+        self.number.value.number()
+    }
+
+    fn name(&self) -> &[u8] {
+        self.name.value.bytes()
+    }
 }

@@ -2,6 +2,7 @@
 //! rows of entities, which have cells of these types.
 #![tactic(auto)]
 
+mod authoring_drafts;
 mod copies;
 mod drafts;
 pub mod faults;
@@ -24,6 +25,8 @@ pub use type_sets::{TypeSet, TypeSetFault};
 
 #[cfg(test)]
 mod fixture;
+#[cfg(test)]
+mod refusal_tests;
 #[cfg(test)]
 mod row_tests;
 #[cfg(test)]

@@ -110,7 +110,7 @@ impl Schema {
         ensures { Tells result (schema_of (view document.now)) }
     {
         let draft = DraftForm.read(alloc, 0, document)?;
-        let lists = lists(alloc, &draft)?;
+        let lists = lists(alloc, draft)?;
         let schema = Schema::of(alloc, lists)?;
         Ok(schema)
     }

@@ -1,11 +1,10 @@
 // A list of types that are found by number and by name.
-ghost use Rattle.std.specs.Prelude.{◌≡◌, ℕ, ◌==◌, List, IfOk, bytes_eq, find};
+ghost use Rattle.std.specs.Prelude.{◌≡◌, ℕ, ◌==◌, List, Some, cond, IfOk, OnOk, bytes_eq, find, take};
 ghost use Rattle.std.specs.Ordering.{nat_cmp};
 ghost use Rattle.std.specs.Option.{option_copied, option_and_then};
-ghost use Rattle.std.specs.List.{slice_get};
-ghost use Rattle.std.specs.BTreeMap.{get, get_by};
-ghost use Rattle.std.specs.Cmp.Lexicographic.{slice_cmp};
-ghost use Rattle.eb_schema.specs.Tables.{Leads};
+ghost use Rattle.std.specs.List.{slice_get, list_any};
+ghost use Rattle.std.specs.BTreeMap.{get};
+ghost use Rattle.eb_schema.specs.Tables.{first_from, stands_before, under_name};
 
 use eb_base::{Items, Memory};
 use std::alloc::Global;
@@ -62,9 +61,33 @@ fn standing<'a, T>(items: &'a [T], index: Option<usize>) -> Option<&'a T>
     }
 }
 
+/// Whether there is a first, and it stands before this index.
+pub fn is_before(first: Option<usize>, index: usize) -> bool
+    ensures { result ≡ stands_before first index }
+{
+    match first {
+        Some(first) => first < index,
+        None => false,
+    }
+}
+
+/// Puts an index under a name, in place of the one that is there.
+pub fn put_name(
+    alloc: Global,
+    map: &mut BTreeMap<Vec<u8>, usize>,
+    name: &[u8],
+    index: usize,
+) -> Result<(), Memory>
+    ensures { OnOk result ((q : List ℕ) → under_name map.new q ≡ cond (bytes_eq q name.now) (Some index) (under_name map.old q)) }
+{
+    let name = Vec::from_slice(alloc, name)?;
+    map.insert(name, index)?;
+    Ok(())
+}
+
 /// The index of the first item of each number.
 fn numbers_of<T: Listed>(alloc: Global, items: &[T]) -> Result<BTreeMap<u8, usize>, Memory>
-    ensures { IfOk result (λ m. (q : ℕ) → Leads items.now (λ x. T.number_of x == q) (get nat_cmp m q) items.now) }
+    ensures { IfOk result (λ m. (q : ℕ) → get nat_cmp m q ≡ first_from 0 (λ x. T.number_of x == q) items.now) }
 {
     let mut map = BTreeMap::new(alloc);
     let mut index = items.len();
@@ -77,14 +100,13 @@ fn numbers_of<T: Listed>(alloc: Global, items: &[T]) -> Result<BTreeMap<u8, usiz
 
 /// The index of the first item of each name.
 fn names_of<T: Listed>(alloc: Global, items: &[T]) -> Result<BTreeMap<Vec<u8>, usize>, Memory>
-    ensures { IfOk result (λ m. (q : List ℕ) → Leads items.now (λ x. bytes_eq q (T.name_of x)) (get_by (λ k. slice_cmp nat_cmp q k.items) m) items.now) }
+    ensures { IfOk result (λ m. (q : List ℕ) → under_name m q ≡ first_from 0 (λ x. bytes_eq q (T.name_of x)) items.now) }
 {
     let mut map = BTreeMap::new(alloc);
     let mut index = items.len();
     while index > 0 {
         index -= 1;
-        let name = Vec::from_slice(alloc, items[index].name())?;
-        map.insert(name, index)?;
+        put_name(alloc, &mut map, items[index].name(), index)?;
     }
     Ok(map)
 }
@@ -122,5 +144,21 @@ impl<T: Listed> Table<T> {
         ensures { option_copied result ≡ find (λ x. bytes_eq name.now (T.name_of x)) self.now }
     {
         standing(self.items.items(), self.names.get(name).copied())
+    }
+
+    /// Whether one of the items before the index has this number. Takes no memory, and time by the logarithm of
+    /// the length.
+    pub fn has_number_before(&self, index: usize, number: u8) -> bool
+        ensures { result ≡ list_any (λ x. T.number_of x == number) (take index self.now) }
+    {
+        is_before(self.numbers.get(&number).copied(), index)
+    }
+
+    /// Whether one of the items before the index has this name. Takes no memory, and time by the logarithm of
+    /// the length.
+    pub fn has_name_before(&self, index: usize, name: &[u8]) -> bool
+        ensures { result ≡ list_any (λ x. bytes_eq (T.name_of x) name.now) (take index self.now) }
+    {
+        is_before(self.names.get(name).copied(), index)
     }
 }

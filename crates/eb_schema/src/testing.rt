@@ -1,15 +1,18 @@
 // What each draft stands for, or why it stands for nothing.
-ghost use Rattle.std.specs.Prelude.{◌≡◌, ◌==◌, Some, bytes_eq, find};
+ghost use Rattle.std.specs.Prelude.{◌≡◌, bytes_eq, find, take};
 ghost use Rattle.std.specs.Option.{option_copied};
 ghost use Rattle.std.specs.List.{list_any};
 ghost use Rattle.eb_schema.specs.SchemaFaults.{Tells};
-ghost use Rattle.eb_schema.specs.SchemaTests.{allows, allowed_kind, kind_of, field_from, fields_from, component_from, authoring_from, same_field, same_fields, authoring_with, copy_from, copy_named, copied_to, is_named, lists_from};
+ghost use Rattle.eb_schema.specs.SchemaForm.{placed};
+ghost use Rattle.eb_schema.specs.SchemaTests.{allows, allowed_kind, kind_of, field_from, fields_from, component_from, authoring_from, same_field, same_fields, authoring_with, copy_from, copy_named, copied_to, each_within, lists_from};
 
+use crate::authoring_drafts::AuthoringDrafts;
 use crate::drafts::{Draft, DraftAuthoring, DraftComponent, DraftField, Holder, Lists, Placed};
 use crate::faults::SchemaFault;
 use crate::kinds::{Authoring, Component, Field, Kind};
 use crate::making::{Maker, make_each};
-use eb_base::{AuthorNo, Items, Text, TypeNo};
+use crate::tables::Table;
+use eb_base::{Items, Text, TypeNo};
 use std::alloc::Global;
 
 // The most fields of a type, or of assets.
@@ -77,25 +80,27 @@ fn kind(holder: Holder, text: &Placed<Text>) -> Result<Kind, SchemaFault>
 
 /// Makes fields.
 #[derive(Drop)]
-struct FieldMaker {
+struct FieldMaker<'a> {
     holder: Holder,
+    drafts: &'a [DraftField],
 }
 
-impl Maker for FieldMaker {
+impl<'a> Maker for FieldMaker<'a> {
     type Draft = DraftField;
 
     type Made = Field;
 
     ghost makes = { λ m. field_from m.holder };
 
+    ghost listed = { λ m. m.drafts.now };
+
+    fn drafts(&self) -> &[DraftField] {
+        self.drafts
+    }
+
     #[tactic(auto, unfolding(crate::specs::SchemaTests::field_from))]
-    fn make(
-        &self,
-        alloc: Global,
-        before: &[DraftField],
-        draft: &DraftField,
-    ) -> Result<Field, SchemaFault> {
-        if is_field_name(before, draft.name.value.bytes()) {
+    fn make(&self, alloc: Global, index: usize, draft: &DraftField) -> Result<Field, SchemaFault> {
+        if is_field_name(&self.drafts[..index], draft.name.value.bytes()) {
             return Err(SchemaFault::NameTaken {
                 place: draft.name.place,
             });
@@ -108,7 +113,7 @@ impl Maker for FieldMaker {
     }
 }
 
-/// Whether one of the fields has this name.
+/// Whether one of the fields, at most 16, has this name.
 fn is_field_name(fields: &[DraftField], name: &[u8]) -> bool
     ensures { result ≡ list_any (λ f. bytes_eq f.name.value name.now) fields.now }
 {
@@ -123,34 +128,53 @@ fn fields(
 ) -> Result<Items<Field>, SchemaFault>
     ensures { Tells result (fields_from holder drafts.now) }
 {
-    make_each(alloc, &FieldMaker { holder }, MOST_FIELDS, drafts)
+    let maker = FieldMaker {
+        holder,
+        drafts: drafts.value.items(),
+    };
+    let fields = make_each(alloc, &maker, MOST_FIELDS, drafts.place)?;
+    Ok(fields)
 }
 
 /// Makes component types.
 #[derive(Drop)]
-struct ComponentMaker;
+struct ComponentMaker<'a> {
+    components: &'a Table<DraftComponent>,
+}
 
-impl Maker for ComponentMaker {
+impl<'a> Maker for ComponentMaker<'a> {
     type Draft = DraftComponent;
 
     type Made = Component;
 
     ghost makes = { λ _. component_from };
 
+    ghost listed = { λ m. m.components.now };
+
+    fn drafts(&self) -> &[DraftComponent] {
+        self.components.items()
+    }
+
     #[tactic(auto, unfolding(crate::specs::SchemaTests::component_from))]
     fn make(
         &self,
         alloc: Global,
-        before: &[DraftComponent],
+        index: usize,
         draft: &DraftComponent,
     ) -> Result<Component, SchemaFault> {
         let fields = fields(alloc, Holder::OfComponent, &draft.fields)?;
-        if is_component_name(before, draft.name.value.bytes()) {
+        if self
+            .components
+            .has_name_before(index, draft.name.value.bytes())
+        {
             return Err(SchemaFault::NameTaken {
                 place: draft.name.place,
             });
         }
-        if is_component_number(before, draft.number.value) {
+        if self
+            .components
+            .has_number_before(index, draft.number.value.number())
+        {
             return Err(SchemaFault::NumberTaken {
                 place: draft.number.place,
             });
@@ -164,24 +188,11 @@ impl Maker for ComponentMaker {
     }
 }
 
-/// Whether one of the component types has this name.
-fn is_component_name(drafts: &[DraftComponent], name: &[u8]) -> bool
-    ensures { result ≡ list_any (λ c. bytes_eq c.name.value name.now) drafts.now }
-{
-    drafts.iter().any(|draft| draft.name.value.bytes() == name)
-}
-
-/// Whether one of the component types has this number.
-fn is_component_number(drafts: &[DraftComponent], number: TypeNo) -> bool
-    ensures { result ≡ list_any (λ c. c.number.value == number) drafts.now }
-{
-    drafts.iter().any(|draft| draft.number.value == number)
-}
-
 /// Makes authoring types, which may be copied to these component types.
 #[derive(Drop)]
 struct AuthoringMaker<'a> {
-    components: &'a [DraftComponent],
+    authoring: &'a AuthoringDrafts,
+    components: &'a Table<DraftComponent>,
 }
 
 impl<'a> Maker for AuthoringMaker<'a> {
@@ -191,16 +202,22 @@ impl<'a> Maker for AuthoringMaker<'a> {
 
     ghost makes = { λ m. authoring_from m.components.now };
 
+    ghost listed = { λ m. m.authoring.now };
+
+    fn drafts(&self) -> &[DraftAuthoring] {
+        self.authoring.table().items()
+    }
+
     #[tactic(auto, unfolding(crate::specs::SchemaTests::authoring_from))]
     fn make(
         &self,
         alloc: Global,
-        before: &[DraftAuthoring],
+        index: usize,
         draft: &DraftAuthoring,
     ) -> Result<Authoring, SchemaFault> {
-        let copy = copy(self.components, before, draft)?;
+        let copy = copy(self.components, self.authoring, index, draft)?;
         let fields = fields(alloc, Holder::OfAuthoring, &draft.fields)?;
-        authoring_with(alloc, before, draft, copy, fields)
+        authoring_with(alloc, self.authoring.table(), index, draft, copy, fields)
     }
 }
 
@@ -208,19 +225,20 @@ impl<'a> Maker for AuthoringMaker<'a> {
 #[tactic(auto, unfolding(crate::specs::SchemaTests::authoring_with))]
 fn authoring_with(
     alloc: Global,
-    before: &[DraftAuthoring],
+    table: &Table<DraftAuthoring>,
+    index: usize,
     draft: &DraftAuthoring,
     copy: Option<TypeNo>,
     fields: Items<Field>,
 ) -> Result<Authoring, SchemaFault>
-    ensures { Tells result (authoring_with before.now draft.now copy fields) }
+    ensures { Tells result (authoring_with (take index table.now) draft.now copy fields) }
 {
-    if is_authoring_name(before, draft.name.value.bytes()) {
+    if table.has_name_before(index, draft.name.value.bytes()) {
         return Err(SchemaFault::NameTaken {
             place: draft.name.place,
         });
     }
-    if is_authoring_number(before, draft.number.value) {
+    if table.has_number_before(index, draft.number.value.number()) {
         return Err(SchemaFault::NumberTaken {
             place: draft.number.place,
         });
@@ -233,94 +251,65 @@ fn authoring_with(
     })
 }
 
-/// Whether one of the authoring types has this name.
-fn is_authoring_name(drafts: &[DraftAuthoring], name: &[u8]) -> bool
-    ensures { result ≡ list_any (λ a. bytes_eq a.name.value name.now) drafts.now }
-{
-    drafts.iter().any(|draft| draft.name.value.bytes() == name)
-}
-
-/// Whether one of the authoring types has this number.
-fn is_authoring_number(drafts: &[DraftAuthoring], number: AuthorNo) -> bool
-    ensures { result ≡ list_any (λ a. a.number.value == number) drafts.now }
-{
-    drafts.iter().any(|draft| draft.number.value == number)
-}
-
-/// The component type that an authoring type is copied to, behind these others.
+/// The component type that an authoring type is copied to, behind those before it.
 #[tactic(auto, unfolding(crate::specs::SchemaTests::copy_from))]
 fn copy(
-    components: &[DraftComponent],
-    before: &[DraftAuthoring],
+    components: &Table<DraftComponent>,
+    authoring: &AuthoringDrafts,
+    index: usize,
     draft: &DraftAuthoring,
 ) -> Result<Option<TypeNo>, SchemaFault>
-    ensures { Tells result (copy_from components.now before.now draft.now) }
+    ensures { Tells result (copy_from components.now (take index authoring.now) draft.now) }
 {
-    let place = draft.copy.place;
-    let fields = draft.fields.value.items();
     match &draft.copy.value {
-        Some(name) => copy_named(components, before, place, fields, name.bytes()),
+        Some(name) => copy_named(components, authoring, index, draft, name.bytes()),
         None => Ok(None),
     }
 }
 
-/// The component type of the name, which has these fields and to which none of the others is copied.
+/// The component type of the name, which has the draft's fields and to which none of those before it is copied.
 #[tactic(auto, unfolding(crate::specs::SchemaTests::copy_named))]
 fn copy_named(
-    components: &[DraftComponent],
-    before: &[DraftAuthoring],
-    place: u32,
-    fields: &[DraftField],
+    components: &Table<DraftComponent>,
+    authoring: &AuthoringDrafts,
+    index: usize,
+    draft: &DraftAuthoring,
     name: &[u8],
 ) -> Result<Option<TypeNo>, SchemaFault>
-    ensures { Tells result (copy_named components.now before.now place fields.now name.now) }
+    ensures { Tells result (copy_named components.now (take index authoring.now) draft.now.copy.place draft.now.fields.value name.now) }
 {
-    if is_copied(before, name) {
+    let place = draft.copy.place;
+    if authoring.is_copied_before(index, name) {
         return Err(SchemaFault::CopyMismatch { place });
     }
-    match first_named(components, name) {
-        Some(component) => copied_to(place, fields, component),
-        None => Err(SchemaFault::CopyMismatch { place }),
-    }
+    copied_to(
+        place,
+        draft.fields.value.items(),
+        first_named(components, name),
+    )
 }
 
-/// The number of the component type, which has these fields.
+/// The number of the component type, which has these fields, if there is one.
 fn copied_to(
     place: u32,
     fields: &[DraftField],
-    component: &DraftComponent,
+    component: Option<&DraftComponent>,
 ) -> Result<Option<TypeNo>, SchemaFault>
-    ensures { Tells result (copied_to place fields.now (Some component.now)) }
+    ensures { Tells result (copied_to place fields.now (option_copied component.entry)) }
 {
-    if same_fields(component.fields.value.items(), fields) {
-        Ok(Some(component.number.value))
-    } else {
-        Err(SchemaFault::CopyMismatch { place })
-    }
-}
-
-/// Whether one of the authoring types is copied to the component type of this name.
-fn is_copied(drafts: &[DraftAuthoring], name: &[u8]) -> bool
-    ensures { result ≡ list_any (λ a. is_named name.now a.copy.value) drafts.now }
-{
-    drafts.iter().any(|draft| copies_to(draft, name))
-}
-
-/// Whether the authoring type is copied to the component type of this name.
-fn copies_to(draft: &DraftAuthoring, name: &[u8]) -> bool
-    ensures { result ≡ is_named name.now draft.now.copy.value }
-{
-    match &draft.copy.value {
-        Some(other) => other.bytes() == name,
-        None => false,
+    match component {
+        Some(component) if same_fields(component.fields.value.items(), fields) => {
+            Ok(Some(component.number.value))
+        }
+        _ => Err(SchemaFault::CopyMismatch { place }),
     }
 }
 
 /// The first component type of this name.
-fn first_named<'a>(drafts: &'a [DraftComponent], name: &[u8]) -> Option<&'a DraftComponent>
-    ensures { option_copied result ≡ find (λ c. bytes_eq c.name.value name.now) drafts.now }
+fn first_named<'a>(components: &'a Table<DraftComponent>, name: &[u8]) -> Option<&'a DraftComponent>
+    ensures { option_copied result ≡ find (λ c. bytes_eq c.name.value name.now) components.now }
 {
-    drafts.iter().find(|draft| draft.name.value.bytes() == name)
+    components.named(name)
 }
 
 /// Whether the fields have the same names and kinds, in the same order.
@@ -348,18 +337,51 @@ fn is_same(one: &DraftField, other: &DraftField) -> bool
 
 /// The lists of a draft.
 #[tactic(auto, unfolding(crate::specs::SchemaTests::lists_from))]
-pub fn lists(alloc: Global, draft: &Draft) -> Result<Lists, SchemaFault>
-    ensures { Tells result (lists_from draft.now) }
+pub fn lists(alloc: Global, draft: Draft) -> Result<Lists, SchemaFault>
+    ensures { Tells result (lists_from draft) }
 {
-    let assets = fields(alloc, Holder::OfAssets, &draft.assets)?;
-    let maker = AuthoringMaker {
-        components: draft.components.value.items(),
-    };
-    let authoring = make_each(alloc, &maker, MOST_TYPES, &draft.authoring)?;
-    let components = make_each(alloc, &ComponentMaker, MOST_TYPES, &draft.components)?;
+    let Draft {
+        assets,
+        authoring,
+        components,
+    } = draft;
+    let assets = fields(alloc, Holder::OfAssets, &assets)?;
+    let table = Table::of(alloc, components.value)?;
+    let drafts = AuthoringDrafts::of(alloc, authoring.value)?;
+    let authoring = authoring_types(alloc, &drafts, authoring.place, &table)?;
+    let components = component_types(alloc, &table, components.place)?;
     Ok(Lists {
         assets,
         authoring,
         components,
     })
+}
+
+/// Makes a list of at most 128 authoring types, which stands at this place.
+fn authoring_types(
+    alloc: Global,
+    authoring: &AuthoringDrafts,
+    place: u32,
+    components: &Table<DraftComponent>,
+) -> Result<Items<Authoring>, SchemaFault>
+    ensures { Tells result (each_within 128 (authoring_from components.now) (placed place authoring.now)) }
+{
+    let maker = AuthoringMaker {
+        authoring,
+        components,
+    };
+    let authoring = make_each(alloc, &maker, MOST_TYPES, place)?;
+    Ok(authoring)
+}
+
+/// Makes a list of at most 128 component types, which stands at this place.
+fn component_types(
+    alloc: Global,
+    components: &Table<DraftComponent>,
+    place: u32,
+) -> Result<Items<Component>, SchemaFault>
+    ensures { Tells result (each_within 128 component_from (placed place components.now)) }
+{
+    let components = make_each(alloc, &ComponentMaker { components }, MOST_TYPES, place)?;
+    Ok(components)
 }

@@ -1,7 +1,6 @@
-// Each public call once with ample memory, the fixture, and one document for each refusal, with places
-// counted by hand.
+// Each public call of a schema once with ample memory, on the fixture.
 use super::fixture::fixture_text;
-use super::{Mode, Schema, SchemaFault};
+use super::{Mode, Schema};
 use eb_base::{AuthorNo, TypeNo};
 use serde_json::Value;
 use std::alloc::Global;
@@ -98,37 +97,4 @@ fn the_plain_schema_is_made(rt: HostRuntime) {
         Err(_) => 0,
     };
     assert_eq!(rt; number, 1);
-}
-
-/// Why the text is no schema.
-fn fault_of(alloc: Global, text: &str) -> Option<SchemaFault> {
-    match Value::from_str(alloc, text) {
-        Ok(document) => Schema::read(alloc, &document).err(),
-        Err(_) => None,
-    }
-}
-
-#[test]
-fn wrong_nodes_are_not_the_form(rt: HostRuntime) {
-    let alloc = rt.alloc();
-}
-
-#[test]
-fn kinds_and_names_are_tested(rt: HostRuntime) {
-    let alloc = rt.alloc();
-}
-
-#[test]
-fn types_are_tested(rt: HostRuntime) {
-    let alloc = rt.alloc();
-}
-
-#[test]
-fn copies_are_tested(rt: HostRuntime) {
-    let alloc = rt.alloc();
-}
-
-#[test]
-fn seventeen_fields_are_too_many(rt: HostRuntime) {
-    let alloc = rt.alloc();
 }
