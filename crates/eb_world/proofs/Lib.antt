@@ -8,3 +8,4 @@ pub mod Shown
 pub mod Dropping
 pub mod Soundness
 pub mod Seats
+pub mod TestFacts

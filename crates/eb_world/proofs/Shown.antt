@@ -1,8 +1,8 @@
 -- What is asked of the entities that are kept is what they show.
-use Rattle.std.proofs.Common.{◌≡◌, ℕ, zero, suc, ◌<◌, ◌≤◌, Bool, true, false, cond, nat_eq, List, [], ◌∷◌, map, take, drop, refl, sym, ◌∙◌, ap, subst, arith}
+use Rattle.std.proofs.Common.{◌≡◌, ℕ, zero, suc, ◌<◌, ◌≤◌, Bool, true, false, cond, nat_eq, List, [], ◌∷◌, map, take, drop, refl, sym, ◌∙◌, ap, subst, T, arith}
 use Rattle.std.specs.Prelude.{Option, Some, None, is_some, option_map, option_and_then, slice_get, All, ⊤}
 use Rattle.std.specs.List.Sorted.{IsPermutation}
-use Rattle.std.specs.FinMap.{get, keys}
+use Rattle.std.specs.FinMap.{contains_key, get, keys}
 use Rattle.std.proofs.lemmas.List.Elements.{All-cons}
 use Rattle.slab.specs.Slab.{Slab}
 use Rattle.eb_base.specs.declared.names.Name.{Name}
@@ -45,12 +45,12 @@ kept_at beings entity b = by (named (handles_of beings) entity)
     by (Some name) h = record { name = name; found = h }
 
 -- a name that isn't seen isn't kept
-pub not_kept : (types : Types) (beings : Beings) (name : Name) → get (live_of types beings) name ≡ None → get beings name ≡ None
-not_kept types beings name h = by (get beings name) (sym (get-map_values (shown types beings) beings name) ∙ h)
+pub not_kept : (types : Types) (beings : Beings) (name : Name) → contains_key (live_of types beings) name ≡ false → get beings name ≡ None
+not_kept types beings name h = by (get beings name) (sym (contains-map_values (shown types beings) beings name) ∙ h)
   where
-    by : (o : Option Being) → option_map (shown types beings) o ≡ None → o ≡ None
+    by : (o : Option Being) → is_some o ≡ false → o ≡ None
     by None h = refl
-    by (Some b) h = absurd (not_none (shown types beings b) (sym h))
+    by (Some b) h = absurd (subst T h tt)
 
 -- ---- values
 

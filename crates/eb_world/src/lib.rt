@@ -8,3 +8,6 @@ mod spares;
 mod worlds;
 
 pub use worlds::World;
+
+#[cfg(test)]
+mod tests;

@@ -1,5 +1,5 @@
 // The world as a whole.
-ghost use Rattle.std.specs.Prelude.{◌≡◌, ℕ, true, ◌+◌, ◌<◌, ◌≤◌, ◌^◌, [], ◌∷◌, None, Some, IfOk, OnOk, OnErr, All, length, map, drop, is_some, option_map, option_and_then, slice_get};
+ghost use Rattle.std.specs.Prelude.{◌≡◌, ℕ, true, false, ◌+◌, ◌<◌, ◌≤◌, ◌^◌, [], ◌∷◌, None, Some, IfOk, OnOk, OnErr, All, length, map, drop, is_some, option_map, option_and_then, slice_get};
 ghost use Rattle.std.specs.Option.{option_copied};
 ghost use Rattle.std.specs.FinMap as finite;
 ghost use Rattle.slab.specs.Slab.{HasRoomFor, Updates, slab_len};
@@ -186,7 +186,8 @@ impl World {
 
     /// The handle of the live entity of a name. Takes no memory.
     pub fn find(&self, name: &Name) -> Option<Entity>
-        ensures { result ≡ finite.get self.now.handles name.now }
+        ensures handle { result ≡ finite.get self.now.handles name.now }
+        ensures lives { is_some result ≡ finite.contains_key self.now.live name.now }
     {
         match self.beings.get(name) {
             Some(being) => Some(being.entity),
@@ -266,7 +267,7 @@ impl World {
     pub fn create_reserved(&mut self, name: Name, row: &Row) -> Entity
         requires next { slice_get self.old.spare.kinds 0 ≡ Some (kinds_of row.now) }
         requires few { finite.len self.old.live < most_live }
-        requires new { finite.get self.old.live name ≡ None }
+        requires new { finite.contains_key self.old.live name ≡ false }
         requires fits { RowFits self.old.types row.now }
         requires serials { self.old.made + 1 < 2 ^ 62 }
         ensures live { self.new.live ≡ created self.old.live name self.old.spare.tag row.now }

@@ -26,7 +26,7 @@ hold_row-values-requires-clause-room c =
 
 pub add-requires-clause-new : goal.add-requires-clause-new
 add-requires-clause-new c =
-    not_kept c.self.inside.schema c.self.inside.beings.map c.args.name (ap (λ w. finite.get w.live c.args.name) c.self.view_is ∙ c.requires.new)
+    not_kept c.self.inside.schema c.self.inside.beings.map c.args.name (ap (λ w. finite.contains_key w.live c.args.name) c.self.view_is ∙ c.requires.new)
 
 pub invariant_of-self : goal.invariant_of-self
 invariant_of-self c =
@@ -36,7 +36,7 @@ invariant_of-self c =
     (sym (ap (λ bs. slice_get (map (λ b. b.kinds) bs) 0) c.in-Some.ensures.items) ∙ ap (λ w. slice_get w.spare.kinds 0) c.self.view_is ∙ c.requires.next) in
     let fits = subst (λ w. RowFits w.types c.args.row.now) (sym c.self.view_is) c.requires.fits in
     let few = subst (λ n. n < most_live) (ap (λ w. finite.len w.live) (sym c.self.view_is) ∙ len-map_values (shown here.schema here.beings.map) here.beings.map) c.requires.few in
-    let new = not_kept here.schema here.beings.map c.args.name (ap (λ w. finite.get w.live c.args.name) c.self.view_is ∙ c.requires.new) in
+    let new = not_kept here.schema here.beings.map c.args.name (ap (λ w. finite.contains_key w.live c.args.name) c.self.view_is ∙ c.requires.new) in
     let seat = c.take_seat-index in
     subst (λ s. IsSound here.schema c.add.new.self seat.new.seats s here.spare_tag c.pop_front.new.self.items (here.made + 1)) (sym c.enlist.ensures)
     (sound_created here.schema here.beings c.add.new.self here.seats seat.new.seats here.sections here.spare_tag c.in-Some.field-0 c.pop_front.new.self.items here.made sound
@@ -48,7 +48,7 @@ returns-clause-live c =
     let kinds = same_some c.in-Some.field-0.kinds (kinds_of c.args.row.now)
     (sym (ap (λ bs. slice_get (map (λ b. b.kinds) bs) 0) c.in-Some.ensures.items) ∙ ap (λ w. slice_get w.spare.kinds 0) c.self.view_is ∙ c.requires.next) in
     let fits = subst (λ w. RowFits w.types c.args.row.now) (sym c.self.view_is) c.requires.fits in
-    let new = not_kept here.schema here.beings.map c.args.name (ap (λ w. finite.get w.live c.args.name) c.self.view_is ∙ c.requires.new) in
+    let new = not_kept here.schema here.beings.map c.args.name (ap (λ w. finite.contains_key w.live c.args.name) c.self.view_is ∙ c.requires.new) in
     ap (live_of here.schema) c.add.ensures.map
     ∙ live_created here.beings.map c.args.name _ here.schema c.args.row.now fits kinds c.hold_row-values.ensures here.made new (omega arith) (λ q x h. (c.self.invariant.each q x h).links)
     ∙ ap (λ w. created w.live c.args.name w.spare.tag c.args.row.now) c.self.view_is
