@@ -7,6 +7,7 @@ mod cutting;
 pub mod errors;
 mod exprs;
 mod jobs;
+pub mod laws;
 pub mod lexemes;
 pub mod lexing;
 pub mod marks;
