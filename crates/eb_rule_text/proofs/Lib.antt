@@ -1,4 +1,10 @@
 mod Levels
 mod NameRuns
+mod SoundBlocks
+mod SoundExprs
+mod SoundFinds
+mod SoundReads
+mod SoundTexts
+mod Steps
 mod TokenFacts
 mod Turns

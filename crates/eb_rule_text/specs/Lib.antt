@@ -3,4 +3,6 @@ pub mod Tokens
 pub mod Input
 pub mod Reading
 pub mod Blocks
+pub mod Spelled
+pub mod Grammar
 pub mod Passes

@@ -67,6 +67,16 @@ link_in depth = do
   expect m.RParen
   pure x
 
+-- ( this . a )
+unfoldable pub field_in : ℕ → Parser Text
+field_in depth = do
+  opens depth m.LParen
+  expect m.This
+  expect m.Dot
+  x ← name
+  expect m.RParen
+  pure x
+
 abbrev pub reach_by : Option Mark → Parser Reach
 reach_by (Some m.Children) = expect m.Children >> pure reach.Children
 reach_by (Some m.Within) = expect m.Within >> pure reach.Within
@@ -81,11 +91,7 @@ reached = λ i. reach_by (mark i) i
 unfoldable pub asset : ℕ → Parser Find
 asset depth = do
   expect m.Asset
-  opens depth m.LParen
-  expect m.This
-  expect m.Dot
-  link ← name
-  expect m.RParen
+  link ← field_in depth
   expect m.Dot
   field ← name
   pure (f.Asset link field)

@@ -7,6 +7,7 @@ mod cutting;
 pub mod errors;
 mod exprs;
 mod jobs;
+pub mod laws;
 pub mod lexemes;
 pub mod lexing;
 pub mod marks;
@@ -26,3 +27,6 @@ pub use trees::{
     Add, Baker, Command, Context, Expr, FieldPath, Find, Init, JobTree, Link, Op, Query, Reach,
     Read, Rule, RulesTree, Stmt, System, Target,
 };
+
+#[cfg(test)]
+mod tests;

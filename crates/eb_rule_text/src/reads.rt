@@ -68,6 +68,19 @@ pub fn link_in(alloc: Global, tokens: &mut Tokens<'_>, depth: u8) -> Result<Fiel
     Ok(read)
 }
 
+// ( this . a )
+#[tactic(auto, unfolding(crate::specs::Reading::field_in))]
+fn field_in(alloc: Global, tokens: &mut Tokens<'_>, depth: u8) -> Result<Text, ReadError>
+    ensures { Reads (spec.field_in depth tokens.old) result tokens.new }
+{
+    tokens.open(depth, Mark::LParen)?;
+    tokens.expect(Mark::This)?;
+    tokens.expect(Mark::Dot)?;
+    let field = tokens.name(alloc)?;
+    tokens.expect(Mark::RParen)?;
+    Ok(field)
+}
+
 // children, or within
 #[tactic(auto, unfolding(crate::specs::Reading::reached))]
 fn reached(tokens: &mut Tokens<'_>) -> Result<Reach, ReadError>
@@ -91,11 +104,7 @@ fn asset(alloc: Global, tokens: &mut Tokens<'_>, depth: u8) -> Result<Find, Read
     ensures { Reads (spec.asset depth tokens.old) result tokens.new }
 {
     tokens.expect(Mark::Asset)?;
-    tokens.open(depth, Mark::LParen)?;
-    tokens.expect(Mark::This)?;
-    tokens.expect(Mark::Dot)?;
-    let link = tokens.name(alloc)?;
-    tokens.expect(Mark::RParen)?;
+    let link = field_in(alloc, tokens, depth)?;
     tokens.expect(Mark::Dot)?;
     let field = tokens.name(alloc)?;
     Ok(Find::Asset(link, field))

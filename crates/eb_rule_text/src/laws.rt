@@ -1,0 +1,13 @@
+// That the reader and the grammar are one.
+ghost use Rattle.std.specs.Prelude.{◌≡◌, Ok};
+ghost use Rattle.eb_rule_text.specs.Blocks as spec;
+ghost use Rattle.eb_rule_text.specs.Grammar.{IsJob, IsRules};
+ghost use Rattle.eb_rule_text.specs.Input.{Input};
+ghost use Rattle.eb_rule_text.specs.declared.trees.JobTree.{JobTree};
+ghost use Rattle.eb_rule_text.specs.declared.trees.RulesTree.{RulesTree};
+
+/// The law that what is read is in the grammar, with the tree that was read.
+pub fn read_is_in_grammar()
+    ensures rules { (i j : Input) (x : RulesTree) → spec.rules i ≡ Ok (x, j) → IsRules i x }
+    ensures job { (i j : Input) (x : JobTree) → spec.job i ≡ Ok (x, j) → IsJob i x }
+{}
