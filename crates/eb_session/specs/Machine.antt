@@ -1,15 +1,20 @@
 -- The session as a machine: a line and a state give a reply, a new state and the files of the folder.
-use Rattle.std.specs.Prelude.{ℕ, ◌+◌, ◌++◌, ℤ, Bool, true, false, not, Option, None, Some, option_map, List, length, codes}
+use Rattle.std.specs.Prelude.{◌≡◌, ℕ, ◌≤◌, IfSome, IsSomeAnd, Contains, ◌+◌, ◌++◌, ℤ, Bool, true, false, not, Option, None, Some, option_map, List, length, codes, refl}
 use Rattle.std.specs.Fmt.{decimal}
-use Rattle.std.specs.FinMap.{insert, len}
+use Rattle.std.specs.FinMap.{code, get, insert, len}
+use Rattle.std.specs.Coded.{Coded, code_by, coded×, coded_list, coded_option, coded_bool, coded_ℕ, coded_ℤ}
 use Rattle.std.specs.Str.{bytes_eq}
 use Rattle.eb_outside.specs.Shelves.{Files}
 use Rattle.eb_schema.specs.Schemas.{plain_types}
 use Rattle.eb_file.specs.declared.images.Image.{Image}
 use Rattle.eb_file.specs.Spelling.{spelling}
-use Rattle.eb_world.specs.Worlds.{Live, tagged}
+use Rattle.eb_file.specs.Images.{IsValid, names_of}
+use Rattle.eb_base.specs.declared.names.Name.{Name}
+use Rattle.eb_base.specs.Names.{coded_name}
+use Rattle.eb_schema.specs.declared.rows.Cell.{Cell}
+use Rattle.eb_world.specs.Worlds.{Live, Living, living_code, tagged}
 use Rattle.eb_query.specs.EntityText.{entity_lines}
-use Rattle.eb_stream.specs.Loading.{loaded, unloaded}
+use Rattle.eb_stream.specs.Loading.{AllOf, HasNumbersAlone, loaded, unloaded}
 use Rattle.eb_session.specs.Objects.{Objects, value_of, with_value, image_of, the_place}
 use Rattle.eb_session.specs.Requests.{request_of}
 use Rattle.eb_session.specs.Replies.{rebaked_text, published_text, loaded_text, unloaded_text, dumped_text, no_section_text, already_loaded_text, not_loaded_text, no_object_text, not_yet_text}
@@ -49,26 +54,34 @@ abbrev pub is_changed : Option Image → List ℕ → Bool
 is_changed None bytes = true
 is_changed (Some image) bytes = not (bytes_eq (bytes_of image) bytes)
 
--- the state once this image is published
-abbrev pub with_published : State → ℕ → Image → State
-with_published state generation image =
-    record { objects = state.objects; generation = generation; published = Some image; is_loaded = state.is_loaded; live = state.live; made = state.made }
+-- what lives once another image of the section is published: the section is loaded again where it is loaded
+abbrev pub refreshed_live : Bool → Live → Image → Live
+refreshed_live false live image = live
+refreshed_live true live image = loaded (unloaded live the_place) image
 
--- the state with the section loaded from this image, in place of the one that was loaded
-abbrev pub refreshed : Bool → Image → State → State
-refreshed false image state = state
-refreshed true image state =
-    record { objects = state.objects; generation = state.generation; published = state.published; is_loaded = true; live = loaded (unloaded state.live the_place) image; made = state.made + length image.rows }
+-- and how many entities were made by then
+abbrev pub refreshed_made : Bool → ℕ → Image → ℕ
+refreshed_made false made image = made
+refreshed_made true made image = made + length image.rows
 
 abbrev pub times_loaded : Bool → ℕ
 times_loaded false = 0
 times_loaded true = 1
 
--- A publication that changes the section writes its file under the new generation, and loads it again where it
--- is loaded.
+-- A publication that changes the section writes its file under the new generation, and loads the section again
+-- where it is loaded.
 abbrev pub publication : Bool → Image → ℕ → State → Files → Step
 publication true image generation state files =
-    step (published_text generation 1 (times_loaded state.is_loaded)) (refreshed state.is_loaded image (with_published state generation image)) (insert files (section_name generation) (bytes_of image))
+    step (published_text generation 1 (times_loaded state.is_loaded))
+    (record {
+      objects = state.objects;
+      generation = generation;
+      published = Some image;
+      is_loaded = state.is_loaded;
+      live = refreshed_live state.is_loaded state.live image;
+      made = refreshed_made state.is_loaded state.made image;
+    })
+    (insert files (section_name generation) (bytes_of image))
 publication false image generation state files =
     step (published_text generation 0 0)
     (record { objects = state.objects; generation = generation; published = state.published; is_loaded = state.is_loaded; live = state.live; made = state.made }) files
@@ -124,3 +137,29 @@ performed (Some Dump) state files = dumped state files
 -- a line and its answer
 unfoldable pub answered : List ℕ → State → Files → Step
 answered line state files = performed (request_of line) state files
+
+-- ---- what every step keeps
+
+-- an image of this path, which a section file can hold
+pub record IsSection (image : Image) : Type 0 where
+  pub valid : IsValid plain_types image
+  pub numbers : HasNumbersAlone image
+  pub place : image.place ≡ the_place
+  pub count : length image.rows ≤ 16384
+
+-- Each entity of the world is a row of the published image of its section, and that section is loaded.
+pub record IsKept (state : State) : Type 0 where
+  pub published : IfSome state.published IsSection
+  pub rows : (name : Name) (l : Living) → get state.live name ≡ Some l → IsSomeAnd state.published (λ image. Contains (names_of image.rows) name)
+  pub tags : AllOf (Some the_place) state.live
+  pub loaded : (name : Name) (l : Living) → get state.live name ≡ Some l → state.is_loaded ≡ true
+
+-- ---- codes
+
+-- a state as the tuple of its parts
+abbrev pub state_code : Coded (List Cell) → Coded Image → Coded State
+state_code row image =
+    code_by (Objects × (ℕ × (Option Image × (Bool × (Live × ℕ)))))
+    (coded× (coded_list (coded× coded_ℕ coded_ℤ)) (coded× coded_ℕ (coded× (coded_option image) (coded× coded_bool (coded× (code coded_name (living_code row)) coded_ℕ)))))
+    (λ s. (s.objects, (s.generation, (s.published, (s.is_loaded, (s.live, s.made))))))
+    (λ p. record { objects = p.0; generation = p.1.0; published = p.1.1.0; is_loaded = p.1.1.1.0; live = p.1.1.1.1.0; made = p.1.1.1.1.1 }) (λ _. refl)

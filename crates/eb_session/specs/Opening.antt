@@ -1,5 +1,5 @@
 -- The state in which a session begins, from the files of the folder.
-use Rattle.std.specs.Prelude.{◌≡◌, ℕ, Option, None, Some, Result, Ok, Err, List, codes, option_map, option_and_then, ⊤}
+use Rattle.std.specs.Prelude.{◌≡◌, ℕ, false, Option, None, Some, Result, Ok, Err, List, codes, option_map, option_and_then, ⊤}
 use Rattle.std.specs.FinMap.{get, empty}
 use Rattle.eb_outside.specs.Shelves.{Files}
 use Rattle.eb_json.specs.Documents.{document_of}

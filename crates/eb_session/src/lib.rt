@@ -7,6 +7,7 @@ pub mod object_table;
 pub mod plain_project;
 pub mod replies;
 pub mod requests;
+pub mod sections;
 pub mod sessions;
 
 pub use errors::{OpenEnd, SessionEnd};

@@ -1,8 +1,9 @@
 // The objects of the project by number, and the image of the section that they are in.
-ghost use Rattle.std.specs.Prelude.{◌≡◌, ℕ, ◌&&◌, ◌<◌, ◌^◌, Bool, true, false, [], length, map, nat_lt, is_none, is_some, Some, IfOk, OnErr};
+ghost use Rattle.std.specs.Prelude.{◌≡◌, ℕ, ◌&&◌, ◌<◌, ◌≤◌, ◌^◌, Bool, true, false, [], length, map, nat_lt, is_none, is_some, Some, IfOk, OnErr};
 ghost use Rattle.std.specs.Bool.{OnFalse};
 ghost use Rattle.eb_schema.specs.Schemas.{plain_types};
 ghost use Rattle.eb_file.specs.Images.{IsValid, IsPlain};
+ghost use Rattle.eb_stream.specs.Loading.{HasNumbersAlone};
 ghost use Rattle.eb_session.specs.Objects.{Objects, value_of, with_value, row_of, image_of};
 ghost use Rattle.eb_session.specs.PlainProject.{if_true, added};
 
@@ -22,7 +23,8 @@ pub struct ObjectTable {
 }
 
 impl Model for ObjectTable {
-    ghost use Rattle.eb_session.specs.Objects.{Objects, IsScene};
+    ghost use Rattle.eb_stream.specs.Loading.{HasNumbersAlone};
+ghost use Rattle.eb_session.specs.Objects.{Objects, IsScene};
 
     ghost Value = { Objects };
 
@@ -89,6 +91,8 @@ impl ObjectTable {
         ensures image { IfOk result (λ image. image ≡ image_of self.now) }
         ensures valid { IfOk result (λ image. IsValid plain_types image) }
         ensures plain { IfOk result (λ image. IsPlain plain_types image) }
+        ensures numbers { IfOk result (λ image. HasNumbersAlone image) }
+        ensures count { IfOk result (λ image. length image.rows ≤ 16384) }
     {
         let rows = object_rows(alloc, &self.values)?;
         Ok(Image {

@@ -3,6 +3,7 @@ use Rattle.std.specs.Prelude.{◌≡◌, ℕ, ◌+◌, ◌<◌, ◌≤◌, ◌^�
 use Rattle.std.specs.List.Sorted.{IsStrictlySortedBy}
 use Rattle.std.specs.Ordering.{nat_cmp}
 use Rattle.std.specs.FinMap.{FinMap, get, insert, len}
+use Rattle.eb_base.specs.declared.names.Name.{Name}
 use Rattle.eb_base.specs.declared.names.Place.{Place}
 use Rattle.eb_base.specs.Names.{name_cmp}
 use Rattle.eb_schema.specs.declared.rows.Val.{Val}
@@ -16,7 +17,7 @@ use Rattle.eb_file.specs.declared.images.StoredCell.{StoredCell}
 use Rattle.eb_file.specs.declared.images.ImageRow.{ImageRow}
 use Rattle.eb_file.specs.declared.images.Image.{Image}
 use Rattle.eb_file.specs.Images.{types_of, names_of}
-use Rattle.eb_world.specs.Worlds.{World, Live, living, kept, without, tagged, most_live, RowFits}
+use Rattle.eb_world.specs.Worlds.{World, Live, Living, living, kept, without, tagged, most_live, RowFits}
 use Rattle.eb_stream.specs.declared.load_faults.LoadFault.{LoadFault}
 use Rattle.eb_stream.specs.declared.load_faults.LoadFault.TheVariants.{Memory, WorldFull}
 
@@ -66,6 +67,10 @@ HasNumbersAlone image = All (λ row. All (λ (c : StoredCell). All IsNumber c.va
 -- the map has nothing under the row's name
 abbrev pub IsNew : {X : Type 0} → FinMap name_cmp X → ImageRow → Type 0
 IsNew map row = get map row.name ≡ None
+
+-- every entity has this tag
+abbrev pub AllOf : Option Place → Live → Type 0
+AllOf tag live = (name : Name) (l : Living) → get live name ≡ Some l → l.tag ≡ tag
 
 -- Why a load ends as it does, where the world would have so many entities.
 abbrev pub LoadEnds : Result ℕ LoadFault → ℕ → Type 0

@@ -2,6 +2,7 @@
 //! `specs/Loading.antt`.
 #![tactic(auto)]
 
+pub mod laws;
 pub mod load_faults;
 pub mod loading;
 #[cfg(test)]

@@ -1,6 +1,6 @@
 -- How far a run has come while its input is read: a reader stands behind some whole lines, and has the bytes
 -- of a line that hasn't ended.
-use Rattle.std.specs.Prelude.{◌≡◌, ℕ, ◌+◌, ◌<◌, ◌≤◌, ◌^◌, ◌==◌, ◌++◌, false, Option, None, Some, option_map, Result, Ok, Err, List, [], ◌∷◌, length, IfSome, ⊤}
+use Rattle.std.specs.Prelude.{◌≡◌, ℕ, ◌+◌, ◌*◌, ◌<◌, ◌≤◌, ◌^◌, ◌==◌, ◌++◌, false, Option, None, Some, option_map, Result, Ok, Err, List, [], ◌∷◌, length, IfSome, ⊤}
 use Rattle.eb_outside.specs.Shelves.{Files}
 use Rattle.eb_outside.specs.Streams.{appended}
 use Rattle.eb_session.specs.Requests.{request_of}
@@ -79,6 +79,7 @@ pub record IsReady (reader : Reader) : Type 0 where
   pub may : MayCome reader.lines reader.line.items
   pub bytes : reader.bytes ≤ 2 ^ 40
   pub count : reader.session.generation + reader.lines < 2 ^ 32
+  pub made : reader.session.made + reader.lines * 16384 < 2 ^ 62
 
 -- A front of these bytes was read.
 pub record Begins (start : Standing) (taken : List ℕ) (before : Option Files) : Type 0 where

@@ -42,9 +42,11 @@ fn answer<H: Shelf>(
     shelf: &mut H,
     kept: &mut Vec<u8>,
 ) -> Result<(), Stop>
-    requires { session.old.generation < 2 ^ 62 }
+    requires generation { session.old.generation < 2 ^ 62 }
+    requires made { session.old.made + 16384 < 2 ^ 62 }
     ensures told { OnOk result (Answers line.now session.old session.new (H.files shelf.old) (H.files shelf.new) kept.old.items kept.new.items) }
     ensures count { OnOk result (session.new.generation ≤ session.old.generation + 1) }
+    ensures made { OnOk result (session.new.made ≤ session.old.made + 16384) }
     ensures err { OnErr result (kept.new.items ≡ kept.old.items) }
     ensures later { H.faults shelf.old ≤ H.faults shelf.new }
     ensures cause { IsErrOf result Stop.Outside → Rose (H.faults shelf.old) (H.faults shelf.new) }
@@ -59,7 +61,8 @@ fn answer<H: Shelf>(
 impl Reader {
     /// A reader of a session that has just been opened.
     pub fn open(alloc: Global, limits: &Limits, session: Session) -> Self
-        requires { session.generation ≡ 0 }
+        requires generation { session.generation ≡ 0 }
+        requires made { session.made ≡ 0 }
         ensures ready { IsReady result }
         ensures fresh { IsAt result [] }
         ensures session { result.session ≡ session }

@@ -76,7 +76,8 @@ pub fn answer_lines<H: Shelf, I: Source, O: Sink>(
     source: &mut I,
     sink: &mut O,
 ) -> Result<u8, Stop>
-    requires first { session.generation ≡ 0 }
+    requires generation { session.generation ≡ 0 }
+    requires made { session.made ≡ 0 }
     requires opens { IfSome (H.files shelf.old) (λ files. opened files ≡ Some session) }
     ensures told { Follows result
         (whole (first_standing limits.now.lines limits.now.bytes session) (H.files shelf.old) (I.left source.old) (O.put sink.old))
