@@ -108,8 +108,8 @@ fn to_units(negative: bool, places: usize, digits: u128) -> Option<i64>
     }
 }
 
-// A point and the digits of a fraction, where there is one.
-fn fraction_write(out: &mut Vec<u8>, fraction: u32) -> Result<(), Memory>
+/// Adds a point and the digits of a fraction, in units of 65536 to the 1, or nothing where there is no fraction.
+pub fn fraction_write(out: &mut Vec<u8>, fraction: u32) -> Result<(), Memory>
     requires { fraction < 65536 }
     ensures { OnOk result (out.new.items ≡ out.old.items ++ fraction_text fraction) }
 {

@@ -18,7 +18,7 @@ pub mod words;
 
 pub use calc::{Calc, CalcFault};
 pub use digits::number_read;
-pub use fixed::{fix_read, fix_write};
+pub use fixed::{fix_read, fix_write, fraction_write};
 pub use items::Items;
 pub use memory::Memory;
 pub use name_map::NameMap;
