@@ -1,0 +1,8 @@
+-- what is left decides
+use Rattle.std.proofs.Common.{◌≡◌, drop}
+use Rattle.std.specs.List.{list_all}
+use Rattle.eb_query.specs.Queries.{has}
+use Rattle.eb_query.proofs.queries.has_all.Given as goal
+
+abbrev pub invariant-loop-kind : goal.invariant-loop-kind
+invariant-loop-kind l = list_all (has l.kinds) (drop l.kind-index l.wanted) ≡ list_all (has l.kinds) l.wanted
