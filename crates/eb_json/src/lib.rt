@@ -4,6 +4,7 @@
 pub mod documents;
 pub mod faults;
 pub mod forms;
+pub mod laws;
 pub mod lists;
 pub mod members;
 pub mod places;

@@ -3,6 +3,7 @@ use super::*;
 use eb_base::Text;
 use std::alloc::{AllocError, Global};
 use std::io::{ErrorKind, Read, Write};
+use std::rt::Files;
 use std::test::Fail;
 use std::{fs, io};
 
@@ -54,12 +55,20 @@ impl Write for Turn {
     }
 }
 
+fn text(alloc: Global, bytes: &[u8]) -> Result<Text, AllocError> {
+    Ok(Text::from_vec(Vec::from_slice(alloc, bytes)?))
+}
+
+fn file(alloc: Global, name: &[u8], bytes: &[u8]) -> Result<(Text, Vec<u8>), AllocError> {
+    let name = text(alloc, name)?;
+    let bytes = Vec::from_slice(alloc, bytes)?;
+    Ok((name, bytes))
+}
+
 fn two_files(alloc: Global) -> Result<Vec<(Text, Vec<u8>)>, AllocError> {
     let mut files = Vec::new(alloc);
-    for (name, bytes) in [("a", [1u8, 2]), ("b", [3, 4])] {
-        let name = Text::from_vec(Vec::from_slice(alloc, name.as_bytes())?);
-        files.push((name, Vec::from_slice(alloc, &bytes)?))?;
-    }
+    files.push(file(alloc, b"a", &[1, 2])?)?;
+    files.push(file(alloc, b"b", &[3, 4])?)?;
     Ok(files)
 }
 
@@ -89,20 +98,28 @@ fn a_shelf_in_memory(rt: HostRuntime) -> Result<(), Fail> {
     Ok(())
 }
 
+// What a call for two bytes answers, and the first of the two afterwards.
+fn taken<S: Source>(source: &mut S, piece: &mut [u8; 2]) -> (Result<usize, Fault>, u8) {
+    let answer = source.take(piece);
+    (answer, piece[0])
+}
+
 #[test]
 fn a_source_in_memory(rt: HostRuntime) -> Result<(), Fail> {
-    let alloc = rt.alloc();
-    let bytes = vec![in alloc; 1, 2, 3, 4, 5]?;
-    let mut source = MemSource::open(bytes, 3, vec![in alloc; 1]?);
+    let bytes = vec![in rt.alloc(); 1, 2, 3, 4, 5]?;
+    let mut source = MemSource::open(bytes, 3, vec![in rt.alloc(); 1]?);
     let mut piece = [0u8; 2];
-    let counts = [Ok(2), Err(Fault), Ok(2), Ok(1), Ok(0)];
-    let firsts = [1, 1, 3, 5, 5];
-    for (count, first) in counts.into_iter().zip(firsts) {
-        assert_eq!(rt; source.take(&mut piece), count);
-        assert_eq!(rt; piece[0], first);
+    for told in [
+        (Ok(2), 1),
+        (Err(Fault), 1),
+        (Ok(2), 3),
+        (Ok(1), 5),
+        (Ok(0), 5),
+    ] {
+        assert_eq!(rt; taken(&mut source, &mut piece), told);
     }
     assert_eq!(rt; source.faults(), 1);
-    assert_eq!(rt; source.left(), [].as_slice());
+    assert!(rt; source.left().is_empty());
     Ok(())
 }
 
@@ -118,43 +135,61 @@ fn a_sink_in_memory(rt: HostRuntime) -> Result<(), Fail> {
     Ok(())
 }
 
+// What the file holds after these bytes were written.
+fn rewritten<R: Files + AllocGlobal>(
+    shelf: &mut FolderShelf<'_, R>,
+    bytes: &[u8],
+) -> Result<Option<Vec<u8>>, OutsideError> {
+    shelf.write(NAME, bytes)?;
+    let found = shelf.read(NAME)?;
+    Ok(found)
+}
+
 #[test]
-fn the_current_folder(rt: HostRuntime) -> Result<(), Fail> {
+fn files_in_the_current_folder(rt: HostRuntime) -> Result<(), Fail> {
     let mut shelf = FolderShelf::open(&rt);
     assert!(rt; shelf.read(NAME)?.is_none());
     for bytes in [[7u8; 40_000].as_slice(), [1, 2].as_slice(), [].as_slice()] {
-        shelf.write(NAME, bytes)?;
-        let found = shelf.read(NAME)?.ok_or("the file is there")?;
+        let found = rewritten(&mut shelf, bytes)?.ok_or("the file is there")?;
         assert_eq!(rt; found.as_slice(), bytes);
     }
     assert!(rt; shelf.read("outside-test.bin.new")?.is_none());
     fs::remove_file(&rt, NAME)?;
     assert_eq!(rt; shelf.faults(), 0);
-    // A folder can't be read as a file, and there is none to write into.
+    Ok(())
+}
+
+// A folder can't be read as a file, and where there is none nothing is written.
+#[test]
+fn what_is_no_file_in_the_current_folder(rt: HostRuntime) {
+    let mut shelf = FolderShelf::open(&rt);
     assert!(rt; shelf.read(".").is_err());
     assert_eq!(rt;
         shelf.write("no-such-folder/file", &[1]),
         Err(OutsideError::Fault)
     );
     assert_eq!(rt; shelf.faults(), 2);
-    Ok(())
 }
 
 #[test]
 fn a_reader_as_source(rt: HostRuntime) {
     let mut piece = [0u8; 2];
     let mut source = StdSource::open([4u8, 5, 6].as_slice());
-    for (count, bytes) in [(2, [4, 5]), (1, [6, 5]), (0, [6, 5])] {
-        assert_eq!(rt; source.take(&mut piece), Ok(count));
-        assert_eq!(rt; piece, bytes);
+    for told in [(Ok(2), 4), (Ok(1), 6), (Ok(0), 6)] {
+        assert_eq!(rt; taken(&mut source, &mut piece), told);
     }
+    assert_eq!(rt; piece[1], 5);
     assert_eq!(rt; source.faults(), 0);
+}
+
+#[test]
+fn a_broken_reader_as_source(rt: HostRuntime) {
+    let mut piece = [0u8; 2];
     let mut broken = StdSource::open(Turn(0));
-    for (answer, faults) in [(Ok(1), 0), (Err(Fault), 1), (Ok(0), 1)] {
-        assert_eq!(rt; broken.take(&mut piece), answer);
+    for (told, faults) in [((Ok(1), 7), 0), ((Err(Fault), 7), 1), ((Ok(0), 7), 1)] {
+        assert_eq!(rt; taken(&mut broken, &mut piece), told);
         assert_eq!(rt; broken.faults(), faults);
     }
-    assert_eq!(rt; piece[0], 7);
 }
 
 #[test]

@@ -1,6 +1,6 @@
 -- In a schema each type is found by its number and by its name.
-use Rattle.std.proofs.Common.{◌≡◌, ℕ, List, [], ◌∷◌, Bool, true, false, nat_eq, Some, refl, ap, ◌∙◌, arith}
-use Rattle.std.specs.Prelude.{find, bytes_eq, option_map}
+use Rattle.std.proofs.Common.{◌≡◌, ℕ, List, [], ◌∷◌, true, false, nat_eq, Some, ap, ◌∙◌, arith}
+use Rattle.std.specs.Prelude.{bytes_eq, option_map}
 use Rattle.std.specs.List.{AllByRecursion}
 use Rattle.std.proofs.lemmas.Bool.Decides.{nat_tests}
 use Rattle.std.proofs.lemmas.Cmp.{nat_list_eq_equiv}
@@ -9,6 +9,7 @@ use Rattle.eb_schema.specs.declared.kinds.Authoring.{Authoring}
 use Rattle.eb_schema.specs.Schemas.{Types, component_of, component_named, authoring_of, authoring_named}
 use Rattle.eb_schema.specs.SoundSchemas.{IsSchema}
 use Rattle.eb_schema.proofs.SoundFacts.{each_found}
+use Rattle.eb_schema.proofs.TableFacts.{find_same}
 
 numbers_same : (k : ℕ) → nat_eq k k ≡ true
 numbers_same k = grind (arith, nat_tests)
@@ -25,10 +26,6 @@ names_turned j k h = nat_list_eq_equiv.symm k j ∙ h
 all_by : {X : Type 0} {P Q : X → Type 0} → ((x : X) → P x → Q x) → (xs : List X) → AllByRecursion P xs → AllByRecursion Q xs
 all_by f [] h = tt
 all_by f (x ∷ xs) h = (f x h.0, all_by f xs h.1)
-
-find_same : {X : Type 0} (p q : X → Bool) → ((x : X) → p x ≡ q x) → (xs : List X) → find p xs ≡ find q xs
-find_same p q same [] = refl
-find_same p q same (x ∷ xs) = rw (same x, find_same p q same xs) refl
 
 pub components_found : (types : Types) → IsSchema types → AllByRecursion (λ c. component_of types c.number ≡ Some c) types.components
 components_found types sound =

@@ -5,11 +5,16 @@ use eb_base::{AuthorNo, TypeNo};
 use serde_json::Value;
 use std::alloc::Global;
 
+/// The schema that the text of a document is.
+fn schema_of(alloc: Global, text: &str) -> Option<Schema> {
+    let document = Value::from_str(alloc, text).ok()?;
+    Schema::read(alloc, &document).ok()
+}
+
 /// A copy of the schema of the fixture.
 fn fixture_schema(alloc: Global) -> Option<Schema> {
     let text = fixture_text(alloc).ok()?;
-    let document = Value::from_str(alloc, text.as_str()).ok()?;
-    let schema = Schema::read(alloc, &document).ok()?;
+    let schema = schema_of(alloc, text.as_str())?;
     schema.copy(alloc).ok()
 }
 
@@ -41,39 +46,40 @@ fn authoring_facts(schema: &Schema, number: u8) -> Option<(Option<TypeNo>, usize
     Some((found.copy, found.fields.items().len()))
 }
 
+/// How many component types, authoring types and fields of assets there are.
+fn counts(schema: &Schema) -> [usize; 3] {
+    [
+        schema.components().len(),
+        schema.authoring_types().len(),
+        schema.asset_fields().len(),
+    ]
+}
+
 #[test]
 fn the_fixture_is_read(rt: HostRuntime) {
-    let alloc = rt.alloc();
-    let counts = match fixture_schema(alloc) {
-        Some(schema) => [
-            schema.components().len(),
-            schema.authoring_types().len(),
-            schema.asset_fields().len(),
-        ],
-        None => [0; 3],
-    };
-    assert_eq!(rt; counts, [15, 16, 1]);
+    let counts = fixture_schema(rt.alloc()).map(|schema| counts(&schema));
+    assert_eq!(rt; counts, Some([15, 16, 1]));
+}
+
+/// The numbers of a component type, of none, of an authoring type, and of none.
+fn numbers(schema: &Schema) -> [u8; 4] {
+    [
+        component_number(schema, b"Hidden"),
+        component_number(schema, b"Nest"),
+        authoring_number(schema, b"Gun"),
+        authoring_number(schema, b"Near"),
+    ]
 }
 
 #[test]
 fn types_are_found_by_name(rt: HostRuntime) {
-    let alloc = rt.alloc();
-    let numbers = match fixture_schema(alloc) {
-        Some(schema) => [
-            component_number(&schema, b"Hidden"),
-            component_number(&schema, b"Nest"),
-            authoring_number(&schema, b"Gun"),
-            authoring_number(&schema, b"Near"),
-        ],
-        None => [99; 4],
-    };
-    assert_eq!(rt; numbers, [15, 0, 12, 0]);
+    let numbers = fixture_schema(rt.alloc()).map(|schema| numbers(&schema));
+    assert_eq!(rt; numbers, Some([15, 0, 12, 0]));
 }
 
 #[test]
 fn component_types_are_found_by_number(rt: HostRuntime) {
-    let alloc = rt.alloc();
-    let facts = match fixture_schema(alloc) {
+    let facts = match fixture_schema(rt.alloc()) {
         Some(schema) => [component_facts(&schema, 14), component_facts(&schema, 16)],
         None => [None; 2],
     };
@@ -82,8 +88,7 @@ fn component_types_are_found_by_number(rt: HostRuntime) {
 
 #[test]
 fn authoring_types_are_found_by_number(rt: HostRuntime) {
-    let alloc = rt.alloc();
-    let facts = match fixture_schema(alloc) {
+    let facts = match fixture_schema(rt.alloc()) {
         Some(schema) => [authoring_facts(&schema, 11), authoring_facts(&schema, 17)],
         None => [None; 2],
     };
