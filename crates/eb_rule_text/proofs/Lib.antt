@@ -1,3 +1,7 @@
+mod CompleteBlocks
+mod CompleteExprs
+mod CompleteFinds
+mod CompleteTexts
 mod Levels
 mod NameRuns
 mod SoundBlocks
@@ -6,5 +10,6 @@ mod SoundFinds
 mod SoundReads
 mod SoundTexts
 mod Steps
+mod Takes
 mod TokenFacts
 mod Turns

@@ -1,5 +1,5 @@
 // That the reader and the grammar are one.
-ghost use Rattle.std.specs.Prelude.{◌≡◌, Ok};
+ghost use Rattle.std.specs.Prelude.{◌≡◌, [], Ok};
 ghost use Rattle.eb_rule_text.specs.Blocks as spec;
 ghost use Rattle.eb_rule_text.specs.Grammar.{IsJob, IsRules};
 ghost use Rattle.eb_rule_text.specs.Input.{Input};
@@ -10,4 +10,10 @@ ghost use Rattle.eb_rule_text.specs.declared.trees.RulesTree.{RulesTree};
 pub fn read_is_in_grammar()
     ensures rules { (i j : Input) (x : RulesTree) → spec.rules i ≡ Ok (x, j) → IsRules i x }
     ensures job { (i j : Input) (x : JobTree) → spec.job i ≡ Ok (x, j) → IsJob i x }
+{}
+
+/// The law that what is in the grammar is read, as that tree. So a list of tokens has at most one tree, and what is refused has none.
+pub fn grammar_is_read()
+    ensures rules { (i : Input) (x : RulesTree) → IsRules i x → spec.rules i ≡ Ok (x, []) }
+    ensures job { (i : Input) (x : JobTree) → IsJob i x → spec.job i ≡ Ok (x, []) }
 {}
