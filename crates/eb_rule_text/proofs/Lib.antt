@@ -13,3 +13,6 @@ mod Steps
 mod Takes
 mod TokenFacts
 mod Turns
+mod SpelledBack
+mod SpelledNumbers
+mod SpelledTokens

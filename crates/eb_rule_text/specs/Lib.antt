@@ -5,4 +5,5 @@ pub mod Reading
 pub mod Blocks
 pub mod Spelled
 pub mod Grammar
+pub mod Spelling
 pub mod Passes
