@@ -16,3 +16,6 @@ mod Turns
 mod SpelledBack
 mod SpelledNumbers
 mod SpelledTokens
+mod Printed
+mod PrintedTexts
+mod ReadsBack

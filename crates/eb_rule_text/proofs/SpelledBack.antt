@@ -1,21 +1,14 @@
 -- The text of spelled tokens has these tokens.
-use Rattle.std.proofs.Common.{◌≡◌, ℕ, zero, suc, ◌+◌, ◌-◌, ◌*◌, ◌<◌, ◌≤◌, ◌^◌, min, ℤ, pos, negsuc, Bool, true, false, not, cond, ◌&&◌, ◌||◌, if◌then◌else◌, ◌==◌, nat_le, nat_lt, List, [], ◌∷◌, ◌++◌, length, take, drop, slice_index, Option, Some, None, Ok, Err, decimal, codes, refl, sym, ap, ◌∙◌, append_assoc, append-nil, arith, rules}
-use Rattle.std.specs.Fmt.{signed_decimal}
-use Rattle.std.specs.List.{prefix_len, list_all}
+use Rattle.std.proofs.Common.{◌≡◌, ℕ, suc, ◌+◌, ◌<◌, Bool, true, false, if◌then◌else◌, List, [], ◌∷◌, ◌++◌, length, take, drop, Ok, refl, sym, ap, ◌∙◌, append_assoc, arith}
 use Rattle.std.proofs.Math.Seq.{take-append_seam, drop-append_seam}
-use Rattle.std.proofs.lemmas.List.Folds.{prefix_len-append}
-use Rattle.eb_base.specs.TypeNames.{word_byte, letter, starts_with_letter}
-use Rattle.eb_rule_text.specs.declared.cutting.Sort.{Sort}
 use Rattle.eb_rule_text.specs.declared.cutting.Sort.TheVariants as sort
-use Rattle.eb_rule_text.specs.declared.cutting.Start.TheVariants as start
-use Rattle.eb_rule_text.specs.declared.lexemes.Lexed.{Lexed}
 use Rattle.eb_rule_text.specs.declared.lexemes.Lexeme.{Lexeme}
 use Rattle.eb_rule_text.specs.declared.lexemes.Lexeme.TheVariants as l
 use Rattle.eb_rule_text.specs.declared.lexing.Found.TheVariants as found
 use Rattle.eb_rule_text.specs.declared.marks.Mark.{Mark}
 use Rattle.eb_rule_text.specs.declared.marks.Mark.TheVariants as m
-use Rattle.eb_rule_text.specs.Tokens.{Text, Lexes, cut, start_of, is_in, keyword, meaning, onward, before, tokens_from, tokens}
-use Rattle.eb_rule_text.specs.Spelling.{mark_text, spell, gap, ends_line, token_text, text_of, IsSpelled, EachSpelled}
+use Rattle.eb_rule_text.specs.Tokens.{Text, cut, keyword, before, tokens_from, tokens}
+use Rattle.eb_rule_text.specs.Spelling.{spell, gap, ends_line, token_text, text_of, IsSpelled, EachSpelled}
 use Rattle.eb_rule_text.proofs.TokenFacts.{step_at}
 
 -- ---- a whole text
@@ -49,10 +42,13 @@ record ReadBack (at : ℕ) (z : Text) (xs : List Lexeme) : Type 0 where
   is : tokens_from 0 at z ≡ Ok (record { places = places; lexemes = xs })
 
 one_back : (x : Lexeme) (xs : List Lexeme) (at : ℕ) → IsSpelled x → ReadBack (at + length (spell x) + 1) (text_of xs) xs → ReadBack at (text_of (x ∷ xs)) (x ∷ xs)
+unfolding token_text
 one_back x xs at is rest =
-    record { places = at ∷ rest.places;
+    record {
+      places = at ∷ rest.places;
       is = ap (tokens_from 0 at) (append_assoc (spell x) (gap x ∷ []) (text_of xs)) ∙ token_step x at (text_of xs) is
-        ∙ ap (before at x) (gap_step x (at + length (spell x)) (text_of xs) ∙ rest.is) }
+          ∙ ap (before at x) (gap_step x (at + length (spell x)) (text_of xs) ∙ rest.is);
+    }
 
 read_back : (xs : List Lexeme) (at : ℕ) → EachSpelled xs → ReadBack at (text_of xs) xs
 read_back [] at each = record { places = []; is = refl }

@@ -1,29 +1,26 @@
 -- Names and numbers are given back by their texts.
-use Rattle.std.proofs.Common.{◌≡◌, ℕ, zero, suc, ◌+◌, ◌-◌, ◌*◌, ◌/◌, ◌%◌, ◌<◌, ◌≤◌, ◌^◌, min, ℤ, pos, negsuc, Bool, true, false, not, cond, ◌&&◌, ◌||◌, if◌then◌else◌, ◌==◌, nat_le, nat_lt, List, [], ◌∷◌, ◌++◌, length, take, drop, slice_index, get_or, decimal, codes, refl, sym, ap, subst, ◌∙◌, append_assoc, append-nil, arith, rules}
+use Rattle.std.proofs.Common.{◌≡◌, ℕ, zero, suc, ◌+◌, ◌*◌, ◌/◌, ◌%◌, ◌<◌, ◌≤◌, ◌^◌, min, ℤ, pos, Bool, true, false, cond, ◌&&◌, if◌then◌else◌, ◌==◌, [], ◌∷◌, ◌++◌, length, drop, slice_index, decimal, refl, sym, ap, ◌∙◌, append_assoc, append-nil, arith, rules}
 use Rattle.std.specs.Prelude.{Option, Some, None, option_and_then}
-use Rattle.std.specs.Fmt.{signed_decimal}
 use Rattle.std.specs.Char.{is_ascii_digit}
 use Rattle.std.specs.Str.{all_ascii_digits}
-use Rattle.std.specs.List.{prefix_len, list_all, list_any}
-use Rattle.std.proofs.Math.Seq.{take-append_seam, drop-append_seam, get_or-append_seam}
-use Rattle.std.proofs.lemmas.Bool.{ltb-true, lt-ltb}
+use Rattle.std.specs.List.{prefix_len, list_all}
+use Rattle.std.proofs.Math.Seq.{take-append_seam, get_or-append_seam}
+use Rattle.std.proofs.lemmas.Bool.{lt-ltb}
 use Rattle.std.proofs.lemmas.Bool.Decides.{nat_tests}
 use Rattle.std.proofs.lemmas.Fmt.{digits_decimal, digits_value-decimal, decimal_nonempty}
-use Rattle.eb_base.specs.Arithmetic.{fits_i64, floor_over}
-use Rattle.eb_base.specs.Digits.{value_after, digits_after, below, point_in}
-use Rattle.eb_base.specs.FixedPoint.{units_of, in_i64, fixed_from, with_point, fixed_at, fixed_of, fraction_digits, fraction_text, size_text, fixed_text, has_lengths}
+use Rattle.eb_base.specs.Arithmetic.{fits_i64}
+use Rattle.eb_base.specs.Digits.{value_after, digits_after, below}
+use Rattle.eb_base.specs.FixedPoint.{units_of, in_i64, with_point, fixed_at, fixed_of, fraction_digits, fraction_text}
 use Rattle.eb_base.specs.TypeNames.{word_byte, letter, starts_with_letter}
-use Rattle.eb_base.proofs.Printed.{numerals, point_behind, drop_behind, cond_some, below_some}
+use Rattle.eb_base.proofs.Printed.{numerals, point_behind, drop_behind}
 use Rattle.eb_base.proofs.FixedPrints.{units_back, digits_back, lengths_back, unsigned, fraction_exact, fraction_all, fraction_length}
-use Rattle.eb_rule_text.specs.declared.cutting.Sort.{Sort}
 use Rattle.eb_rule_text.specs.declared.cutting.Sort.TheVariants as sort
 use Rattle.eb_rule_text.specs.declared.cutting.Start.TheVariants as start
 use Rattle.eb_rule_text.specs.declared.cutting.Run.TheVariants as run
-use Rattle.eb_rule_text.specs.declared.lexemes.Lexeme.{Lexeme}
 use Rattle.eb_rule_text.specs.declared.lexemes.Lexeme.TheVariants as l
 use Rattle.eb_rule_text.specs.declared.lexing.Found.TheVariants as found
-use Rattle.eb_rule_text.specs.Tokens.{Text, cut, cut_at, start_of, is_in, is_digit, is_blank, number, number_where, keyword, word_found, name_found, int_found, fix_found, meaning}
-use Rattle.eb_rule_text.specs.Spelling.{spell, gap, has_point, pointed, IsSpelled}
+use Rattle.eb_rule_text.specs.Tokens.{Text, cut, cut_at, start_of, is_in, is_digit, is_blank, number_where, keyword, int_found, fix_found, meaning}
+use Rattle.eb_rule_text.specs.Spelling.{spell, has_point, pointed, IsSpelled}
 
 -- ---- names
 
@@ -195,18 +192,28 @@ parts_where : (n r : ℕ) → n < 2 ^ 63 → n % 65536 ≡ r → Parts n
 parts_where n zero small e =
     let w = n / 65536 in
     let digits = digits_decimal numerals w (omega arith) in
-    record { first = 48; more = []; text = ap (λ q. pointed (decimal w ++ fraction_text q)) e ∙ whole_text (decimal w) digits; all = refl; few = omega arith;
-      exact = ap (λ q. q * 10 ^ 1) (sym e) }
+    record {
+      first = 48;
+      more = [];
+      text = ap (λ q. pointed (decimal w ++ fraction_text q)) e ∙ whole_text (decimal w) digits;
+      all = refl;
+      few = omega arith;
+      exact = ap (λ q. q * 10 ^ 1) (sym e);
+    }
 parts_where n (suc r) small e =
     let w = n / 65536 in
     let digits = digits_decimal numerals w (omega arith) in
     let f = suc r in
     let less : f < 65536 = omega arith in
     let exact = fraction_exact 16 f (f * 152587890625) less (omega arith) in
-    record { first = 48 + f * 10 / 65536; more = fraction_digits 15 (f * 10 % 65536);
+    record {
+      first = 48 + f * 10 / 65536;
+      more = fraction_digits 15 (f * 10 % 65536);
       text = ap (λ q. pointed (decimal w ++ fraction_text q)) e ∙ fraction_left (decimal w) (fraction_digits 16 f) digits;
-      all = fraction_all 16 f less; few = fraction_length 16 f;
-      exact = exact ∙ ap (λ q. q * 10 ^ length (fraction_digits 16 f)) (sym e) }
+      all = fraction_all 16 f less;
+      few = fraction_length 16 f;
+      exact = exact ∙ ap (λ q. q * 10 ^ length (fraction_digits 16 f)) (sym e);
+    }
 
 fix_from : (n : ℕ) → n < 2 ^ 63 → Parts n → IsSpelled (l.Fix (pos n))
 fix_from n small p =
@@ -215,8 +222,12 @@ fix_from n small p =
     let some : 0 < length (decimal w) = decimal_nonempty w (omega arith) in
     let z = decimal w ++ 46 ∷ p.first ∷ p.more in
     let long : 1 ≤ length z = omega (arith, length_parts (decimal w) (p.first ∷ p.more)) in
-    record { of = sort.Fix; some = rw p.text long; cuts = λ rest. rw p.text (fix_cut (decimal w) p.first p.more rest digits some p.all);
-      means = rw p.text (ap fix_found (fixed_back n p.first p.more small p.all p.few p.exact)) }
+    record {
+      of = sort.Fix;
+      some = rw p.text long;
+      cuts = λ rest. rw p.text (fix_cut (decimal w) p.first p.more rest digits some p.all);
+      means = rw p.text (ap fix_found (fixed_back n p.first p.more small p.all p.few p.exact));
+    }
 
 pub fix_spelled : (n : ℕ) → n < 2 ^ 63 → IsSpelled (l.Fix (pos n))
 fix_spelled n small = fix_from n small (parts_where n (n % 65536) small refl)

@@ -1,10 +1,10 @@
 -- The tokens of a text are spelled: each is given back by its text.
-use Rattle.std.proofs.Common.{◌≡◌, ℕ, zero, suc, ◌+◌, ◌-◌, ◌*◌, ◌/◌, ◌<◌, ◌≤◌, ◌^◌, min, ℤ, pos, negsuc, Bool, true, false, cond, ◌&&◌, if◌then◌else◌, ◌==◌, nat_lt, List, [], ◌∷◌, ◌++◌, length, take, drop, slice_index, Ok, Err, refl, sym, ap, subst, ◌∙◌, arith, rules}
-use Rattle.std.specs.Prelude.{Option, Some, None, option_and_then, Result}
+use Rattle.std.proofs.Common.{◌≡◌, ℕ, zero, suc, ◌+◌, ◌-◌, ◌*◌, ◌/◌, ◌<◌, ◌≤◌, ◌^◌, min, ℤ, pos, Bool, true, false, cond, ◌&&◌, if◌then◌else◌, ◌==◌, [], ◌∷◌, ◌++◌, length, take, drop, slice_index, Ok, Err, refl, sym, ap, subst, ◌∙◌, arith, rules}
+use Rattle.std.specs.Prelude.{Option, Some, None, option_and_then}
 use Rattle.std.specs.List.{prefix_len, list_all}
 use Rattle.std.proofs.lemmas.Bool.{ltb-true}
 use Rattle.std.proofs.lemmas.Bool.Decides.{nat_tests}
-use Rattle.eb_base.specs.Arithmetic.{fits_i64, floor_over}
+use Rattle.eb_base.specs.Arithmetic.{fits_i64}
 use Rattle.eb_base.specs.Digits.{below, digits_after, point_in}
 use Rattle.eb_base.specs.FixedPoint.{units_of, in_i64, fixed_from, with_point, fixed_at, fixed_of, has_lengths}
 use Rattle.eb_base.specs.TypeNames.{word_byte, starts_with_letter}
@@ -19,7 +19,7 @@ use Rattle.eb_rule_text.specs.declared.lexemes.Lexeme.TheVariants as l
 use Rattle.eb_rule_text.specs.declared.lexing.Found.{Found}
 use Rattle.eb_rule_text.specs.declared.lexing.Found.TheVariants as found
 use Rattle.eb_rule_text.specs.declared.marks.Mark.{Mark}
-use Rattle.eb_rule_text.specs.Tokens.{Text, Lexes, cut, cut_at, start_of, is_blank, is_digit, is_in, number, number_where, sign, longer, double, single, keyword, word_found, name_found, int_found, fix_found, meaning, onward, before, nothing_lexed, tokens_from, tokens}
+use Rattle.eb_rule_text.specs.Tokens.{Text, Lexes, cut, cut_at, start_of, is_blank, is_digit, is_in, number_where, longer, double, single, keyword, word_found, int_found, fix_found, meaning, onward, before, nothing_lexed, tokens_from, tokens}
 use Rattle.eb_rule_text.specs.Spelling.{IsSpelled, EachSpelled}
 use Rattle.eb_rule_text.proofs.SpelledBack.{mark_spelled, underscore_spelled}
 use Rattle.eb_rule_text.proofs.SpelledNumbers.{name_spelled, int_spelled, fix_spelled}

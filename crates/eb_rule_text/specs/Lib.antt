@@ -6,4 +6,5 @@ pub mod Blocks
 pub mod Spelled
 pub mod Grammar
 pub mod Spelling
+pub mod Printing
 pub mod Passes

@@ -94,7 +94,7 @@ abbrev pub gap : Lexeme → ℕ
 gap x = if ends_line x then 10 else 32
 
 -- a token and the blank behind it
-abbrev pub token_text : Lexeme → Text
+unfoldable pub token_text : Lexeme → Text
 token_text x = spell x ++ gap x ∷ []
 
 abbrev pub text_of : List Lexeme → Text

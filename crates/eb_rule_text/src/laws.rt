@@ -1,14 +1,10 @@
 // That the reader and the grammar are one.
-ghost use Rattle.std.specs.Prelude.{◌≡◌, ◌<◌, ◌^◌, [], ℕ, pos, List, Ok};
-ghost use Rattle.eb_rule_text.specs.Spelling.{text_of, IsSpelled, EachSpelled};
-ghost use Rattle.eb_rule_text.specs.Tokens.{tokens};
-ghost use Rattle.eb_rule_text.specs.declared.lexemes.Lexeme.{Lexeme};
-ghost use Rattle.eb_rule_text.specs.declared.lexemes.Lexeme.TheVariants as l;
-ghost use Rattle.eb_rule_text.specs.declared.lexemes.Lexed.{Lexed};
-ghost use Rattle.eb_rule_text.specs.declared.marks.Mark.{Mark};
+ghost use Rattle.std.specs.Prelude.{◌≡◌, [], ℕ, List, Ok};
 ghost use Rattle.eb_rule_text.specs.Blocks as spec;
 ghost use Rattle.eb_rule_text.specs.Grammar.{IsJob, IsRules};
 ghost use Rattle.eb_rule_text.specs.Input.{Input};
+ghost use Rattle.eb_rule_text.specs.Passes.{placed, read_text};
+ghost use Rattle.eb_rule_text.specs.Printing.{job_text, rules_text};
 ghost use Rattle.eb_rule_text.specs.declared.trees.JobTree.{JobTree};
 ghost use Rattle.eb_rule_text.specs.declared.trees.RulesTree.{RulesTree};
 
@@ -24,10 +20,10 @@ pub fn grammar_is_read()
     ensures job { (i : Input) (x : JobTree) → IsJob i x → spec.job i ≡ Ok (x, []) }
 {}
 
-pub fn try_back()
-    ensures text { (xs : List Lexeme) → EachSpelled xs → (places : List ℕ) × (tokens (text_of xs) ≡ Ok (record { places = places; lexemes = xs })) }
-    ensures spelled { (z : List ℕ) (x : Lexed) → tokens z ≡ Ok x → EachSpelled x.lexemes }
-    ensures marks { (k : Mark) → IsSpelled (l.Mark k) }
-    ensures ints { (n : ℕ) → n < 2 ^ 63 → IsSpelled (l.Int (pos n)) }
-    ensures fixes { (n : ℕ) → n < 2 ^ 63 → IsSpelled (l.Fix (pos n)) }
+/// The law that a tree that was read from a text is read again from the text that it is printed as.
+pub fn printed_reads_back()
+    ensures rules { (text : List ℕ) (x : RulesTree) (places : List ℕ) → read_text spec.rules text ≡ Ok (placed x places)
+        → (more : List ℕ) × (read_text spec.rules (rules_text x) ≡ Ok (placed x more)) }
+    ensures job { (text : List ℕ) (x : JobTree) (places : List ℕ) → read_text spec.job text ≡ Ok (placed x places)
+        → (more : List ℕ) × (read_text spec.job (job_text x) ≡ Ok (placed x more)) }
 {}
