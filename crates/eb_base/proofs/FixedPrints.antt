@@ -132,7 +132,7 @@ floor_whole true (suc m) (suc q) h =
 
 -- ---- a number of units that is printed
 
-units_back : (negative : Bool) (n : ℕ) (ds : List ℕ) → value_after 0 ds * 65536 ≡ n % 65536 * 10 ^ length ds → units_of negative (length ds) (value_after (n / 65536) ds) ≡ with_sign negative n
+pub units_back : (negative : Bool) (n : ℕ) (ds : List ℕ) → value_after 0 ds * 65536 ≡ n % 65536 * 10 ^ length ds → units_of negative (length ds) (value_after (n / 65536) ds) ≡ with_sign negative n
 units_back negative n ds exact =
     let p = 10 ^ length ds in
     let w = n / 65536 in
@@ -143,7 +143,7 @@ units_back negative n ds exact =
     let whole : value_after w ds * 65536 ≡ n * p = omega (arith, value, exact, split_here) in
     ap (λ k. floor_over (with_sign negative k) p) whole ∙ floor_whole negative n p (one-le-pow (length ds) 10 (lit< tt))
 
-digits_back : (w : ℕ) (ds : List ℕ) → w < 2 ^ 64 → all_ascii_digits ds ≡ true → digits_after 0 (decimal w ++ ds) ≡ Some (value_after w ds)
+pub digits_back : (w : ℕ) (ds : List ℕ) → w < 2 ^ 64 → all_ascii_digits ds ≡ true → digits_after 0 (decimal w ++ ds) ≡ Some (value_after w ds)
 digits_back w ds small all =
     digits_after-append 0 (decimal w) ds
     ∙ ap (λ b. option_and_then (λ m. digits_after m ds) (cond b (Some (value_after 0 (decimal w))) None)) (digits_decimal numerals w small)
@@ -153,7 +153,7 @@ digits_back w ds small all =
 tests : (a b : ℕ) → 0 < a → a ≤ 15 → b ≤ 16 → (nat_lt 0 a && (nat_le a 15 && nat_le b 16)) ≡ true
 tests a b p q r = grind (arith, nat_tests)
 
-lengths_back : (w : ℕ) (ds : List ℕ) → w < 2 ^ 48 → length ds ≤ 16 → has_lengths (decimal w) ds ≡ true
+pub lengths_back : (w : ℕ) (ds : List ℕ) → w < 2 ^ 48 → length ds ≤ 16 → has_lengths (decimal w) ds ≡ true
 lengths_back w ds small few =
     let some_digit : 0 < length (decimal w) = decimal_nonempty w (omega arith) in
     let most : length (decimal w) ≤ 15 = length-decimal-le 15 w (omega arith) (omega arith) (omega arith) in
@@ -191,7 +191,7 @@ size_back negative n small = at_back negative n (n % 65536) small refl
 no_sign : (c : ℕ) (b : Bool) → (is_ascii_digit c && b) ≡ true → (c == 45) ≡ false
 no_sign c b h = grind (arith, nat_tests)
 
-unsigned : (ds rest : List ℕ) → all_ascii_digits ds ≡ true → 0 < length ds → fixed_of (ds ++ rest) ≡ fixed_at false (ds ++ rest) (point_in (ds ++ rest))
+pub unsigned : (ds rest : List ℕ) → all_ascii_digits ds ≡ true → 0 < length ds → fixed_of (ds ++ rest) ≡ fixed_at false (ds ++ rest) (point_in (ds ++ rest))
 unsigned [] rest all some_digit = absurd (omega arith)
 unsigned (c ∷ cs) rest all some_digit =
     ap (λ b. cond b (fixed_at true (cs ++ rest) (point_in (cs ++ rest))) (fixed_at false (c ∷ (cs ++ rest)) (point_in (c ∷ (cs ++ rest))))) (no_sign c (all_ascii_digits cs) all)

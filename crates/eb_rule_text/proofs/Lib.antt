@@ -1,3 +1,7 @@
+mod CompleteBlocks
+mod CompleteExprs
+mod CompleteFinds
+mod CompleteTexts
 mod Levels
 mod NameRuns
 mod SoundBlocks
@@ -6,5 +10,12 @@ mod SoundFinds
 mod SoundReads
 mod SoundTexts
 mod Steps
+mod Takes
 mod TokenFacts
 mod Turns
+mod SpelledBack
+mod SpelledNumbers
+mod SpelledTokens
+mod Printed
+mod PrintedTexts
+mod ReadsBack

@@ -1,5 +1,5 @@
 -- Statements are in the grammar, where they are read.
-use Rattle.std.proofs.Common.{◌≡◌, ℕ, zero, suc, ◌-◌, ◌<◌, Bool, true, false, if◌then◌else◌, List, [], ◌∷◌, ◌++◌, length, Option, Some, None, Ok, Err, refl, sym, ap, ◌∙◌, append_assoc, append-nil, arith, rules}
+use Rattle.std.proofs.Common.{◌≡◌, ℕ, zero, suc, ◌-◌, ◌<◌, Bool, true, false, if◌then◌else◌, List, [], ◌∷◌, ◌++◌, length, Option, Some, None, Ok, sym, ap, ◌∙◌, append_assoc, append-nil, arith, rules}
 use Rattle.eb_rule_text.specs.declared.lexemes.Lexeme.TheVariants as l
 use Rattle.eb_rule_text.specs.declared.marks.Mark.{Mark}
 use Rattle.eb_rule_text.specs.declared.marks.Mark.TheVariants as m
@@ -11,7 +11,7 @@ use Rattle.eb_rule_text.specs.declared.trees.Add.{Add}
 use Rattle.eb_rule_text.specs.declared.trees.Stmt.{Stmt}
 use Rattle.eb_rule_text.specs.declared.trees.Stmt.TheVariants as s
 use Rattle.eb_rule_text.specs.Tokens.{Text}
-use Rattle.eb_rule_text.specs.Input.{Input, Outcome, Parser, and_then, ◌>>◌, pure, refuse, mark, expect, eat, until_brace}
+use Rattle.eb_rule_text.specs.Input.{Input, Parser, and_then, ◌>>◌, pure, refuse, mark, expect, eat, until_brace}
 use Rattle.eb_rule_text.specs.Blocks as spec
 use Rattle.eb_rule_text.specs.Grammar.{IsExpr, EndInits, last_init, one_init, AreInits, no_init, some_init, IsAdd, added, EndAdds, no_add, one_add, IsStmt, a_let, an_add, an_extra, an_if, an_else, EndStmts, no_stmt, one_stmt}
 use Rattle.eb_rule_text.proofs.Steps.{went, ok_value, ok_rest, expected, opened, named, taken, left}
@@ -192,7 +192,7 @@ let_sound context d i j x h =
     let o = went _ _ x j n.onward in
     let q = went _ _ x j o.onward in
     let_moved context d i j a.rest b.rest n.rest o.rest q.rest b.value o.value x (expected _ _ _ _ a.first) (named _ _ _ b.first) (expected _ _ _ _ n.first)
-        (expression_sound context d n.rest o.rest o.value o.first) (expected _ _ _ _ q.first) q.onward
+    (expression_sound context d n.rest o.rest o.value o.first) (expected _ _ _ _ q.first) q.onward
 
 extra_moved : (d : ℕ) (i j k n t : Input) (name : Text) (body : List Add) (x : Stmt) → i ≡ l.Mark m.Extra ∷ k → k ≡ l.Name name ∷ n → Braced (EndAdds c.Baker) d n body t → pure (s.Extra name body) t ≡ Ok (x, j) → IsStmt c.Baker d i x j
 extra_moved d i j k n t name body x first second are h = rw (one_less d are.room, first, second, are.tokens, ← ok_value h, ← ok_rest h) (an_extra are.are)
@@ -267,7 +267,7 @@ if_sound context d p below i j x h =
     let o = went _ _ x j n.onward in
     let q = went _ _ o.value o.rest o.first in
     otherwise_sound context d p below i j a.rest b.rest n.rest q.rest o.rest b.value n.value o.value x (expected _ _ _ _ a.first)
-        (expression_sound context d a.rest b.rest b.value b.first) (block_sound context d p below b.rest n.rest n.value n.first) q.value q.first q.onward o.onward
+    (expression_sound context d a.rest b.rest b.value b.first) (block_sound context d p below b.rest n.rest n.value n.first) q.value q.first q.onward o.onward
 
 stmt_by_sound : (context : Context) (d : ℕ) (p : Parser Stmt) → Below context d p → (next : Option Mark) (i j : Input) (x : Stmt) → spec.stmt_by context d p next i ≡ Ok (x, j) → IsStmt context d i x j
 stmt_by_sound context d p below (Some m.Let) i j x h = let_sound context d i j x h

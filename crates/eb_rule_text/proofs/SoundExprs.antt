@@ -1,18 +1,17 @@
 -- Expressions are in the grammar, where they are read.
-use Rattle.std.proofs.Common.{◌≡◌, ℕ, zero, suc, ◌+◌, ◌-◌, ◌≤◌, ◌<◌, Bool, true, false, if◌then◌else◌, ◌==◌, List, [], ◌∷◌, ◌++◌, length, drop, Option, Some, None, Ok, Err, refl, sym, ap, ◌∙◌, append_assoc, append-nil, arith, rules}
+use Rattle.std.proofs.Common.{◌≡◌, ℕ, zero, suc, ◌-◌, ◌≤◌, ◌<◌, List, [], ◌∷◌, ◌++◌, length, Option, Some, None, Ok, refl, sym, ◌∙◌, append_assoc, append-nil, arith, rules}
 use Rattle.eb_rule_text.specs.declared.lexemes.Lexeme.TheVariants as l
 use Rattle.eb_rule_text.specs.declared.marks.Mark.{Mark}
 use Rattle.eb_rule_text.specs.declared.marks.Mark.TheVariants as m
 use Rattle.eb_rule_text.specs.declared.trees.Context.{Context}
-use Rattle.eb_rule_text.specs.declared.trees.Find.{Find}
 use Rattle.eb_rule_text.specs.declared.trees.Op.{Op}
 use Rattle.eb_rule_text.specs.declared.trees.Link.{Link}
 use Rattle.eb_rule_text.specs.declared.trees.Expr.{Expr}
 use Rattle.eb_rule_text.specs.declared.trees.Expr.TheVariants as e
 use Rattle.eb_rule_text.specs.Input.{Input, Parser, and_then, ◌<$>◌, pure, refuse, mark}
-use Rattle.eb_rule_text.specs.Reading.{op_at, of_level, op_by, when, link_of, chain, found_of, turns_of, links, links_from, level, enclosed, marked, marked_by, atom, prim, under, signed, signed_by, unary, expression, read}
-use Rattle.eb_rule_text.specs.Grammar.{AreFinds, IsRead, IsLevel, AreLinks, IsUnary, IsAtom, IsExpr, tightest, chained, no_link, a_link, negated, inverted, plain, an_int, a_fix, a_name, a_true, a_false, a_null, in_parens, to_fix, to_int, a_read}
-use Rattle.eb_rule_text.proofs.Steps.{went, ok_value, ok_rest, expected, opened, named}
+use Rattle.eb_rule_text.specs.Reading.{op_at, when, link_of, chain, found_of, turns_of, links, links_from, level, enclosed, marked, marked_by, atom, prim, under, signed, signed_by, unary, expression, read}
+use Rattle.eb_rule_text.specs.Grammar.{IsLevel, AreLinks, IsUnary, IsAtom, IsExpr, tightest, chained, no_link, a_link, negated, inverted, plain, an_int, a_fix, a_name, a_true, a_false, a_null, in_parens, to_fix, to_int, a_read}
+use Rattle.eb_rule_text.proofs.Steps.{went, ok_value, ok_rest, expected, opened}
 use Rattle.eb_rule_text.proofs.SoundFinds.{finds_sound}
 use Rattle.eb_rule_text.proofs.SoundReads.{read_sound}
 
@@ -65,7 +64,8 @@ links_where context n d turns operand is onward k i j done x few (Some o) e h =
       more = link_of o a.value ∷ rest.more;
       whole = rest.whole ∙ append_assoc done (link_of o a.value ∷ []) rest.more;
       are = a_link e (is i a.rest a.value a.first) rest.are (λ two. rest.none (few_left turns (few two)));
-      none = λ z. absurd (no_turn turns z) }
+      none = λ z. absurd (no_turn turns z);
+    }
 
 links_at : (context : Context) (n d turns : ℕ) (operand : Parser Expr) → Level context n d operand → LinkedAll context n d turns operand → LinkedAll context n d (suc turns) operand
 unfolding LinkedAll
@@ -125,8 +125,13 @@ enclosed_sound context d p below i j x h =
     let o = went _ _ x j b.onward in
     let open_ = opened _ _ _ _ _ a.first in
     let is = level_sound context (d - 1) p (below (d - 1) (one_less d open_.room)) 5 a.rest b.rest b.value b.first in
-    record { fewer = d - 1; deep = one_less d open_.room; rest = a.rest; tokens = open_.tokens;
-      is = closed context (d - 1) a.rest j b.rest o.rest x b.value is (expected _ _ _ _ o.first) o.onward }
+    record {
+      fewer = d - 1;
+      deep = one_less d open_.room;
+      rest = a.rest;
+      tokens = open_.tokens;
+      is = closed context (d - 1) a.rest j b.rest o.rest x b.value is (expected _ _ _ _ o.first) o.onward;
+    }
 
 paren_moved : (context : Context) (d : ℕ) (i j k : Input) (x y : Expr) → Enclosed context d i y k → pure (e.Paren y) k ≡ Ok (x, j) → IsAtom context d i x j
 paren_moved context d i j k x y is h = rw (is.deep, is.tokens, ← ok_value h, ← ok_rest h) (in_parens is.is)

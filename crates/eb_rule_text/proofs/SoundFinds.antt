@@ -1,5 +1,5 @@
 -- Reads with `or` are in the grammar, where they are read.
-use Rattle.std.proofs.Common.{◌≡◌, ℕ, zero, suc, ◌≤◌, ◌<◌, Bool, true, false, if◌then◌else◌, List, [], ◌∷◌, ◌++◌, length, Option, Some, None, Ok, Err, refl, sym, ap, ◌∙◌, append_assoc, append-nil, arith, rules}
+use Rattle.std.proofs.Common.{◌≡◌, ℕ, zero, suc, ◌<◌, Bool, true, false, if◌then◌else◌, List, [], ◌∷◌, ◌++◌, length, Option, Some, Ok, refl, sym, ap, ◌∙◌, append_assoc, append-nil, rules}
 use Rattle.eb_rule_text.specs.declared.lexemes.Lexeme.TheVariants as l
 use Rattle.eb_rule_text.specs.declared.marks.Mark.{Mark}
 use Rattle.eb_rule_text.specs.declared.marks.Mark.TheVariants as m
@@ -9,13 +9,11 @@ use Rattle.eb_rule_text.specs.declared.trees.FieldPath.{FieldPath}
 use Rattle.eb_rule_text.specs.declared.trees.Find.{Find}
 use Rattle.eb_rule_text.specs.declared.trees.Find.TheVariants as f
 use Rattle.eb_rule_text.specs.declared.trees.Reach.{Reach}
-use Rattle.eb_rule_text.specs.declared.trees.Read.{Read}
-use Rattle.eb_rule_text.specs.declared.trees.Read.TheVariants as r
 use Rattle.eb_rule_text.specs.Tokens.{Text}
 use Rattle.eb_rule_text.specs.Input.{Input, and_then, pure, mark}
 use Rattle.eb_rule_text.specs.Reading as spec
-use Rattle.eb_rule_text.specs.Spelled.{path_then, kind_then, member_then, path_in_then, link_in_then, field_in_then, reach_mark, find_then, has_find, read_then, has_read, read_levels}
-use Rattle.eb_rule_text.specs.Grammar.{IsFind, IsRead, AreFinds, no_find, a_find}
+use Rattle.eb_rule_text.specs.Spelled.{path_then, kind_then, member_then, path_in_then, link_in_then, field_in_then, reach_mark, find_then, has_find}
+use Rattle.eb_rule_text.specs.Grammar.{IsFind, AreFinds, no_find, a_find}
 use Rattle.eb_rule_text.proofs.Steps.{went, moved, ok_value, ok_rest, expected, opened, named}
 
 pub path_sound : (i j : Input) (x : FieldPath) → spec.path i ≡ Ok (x, j) → i ≡ path_then x j

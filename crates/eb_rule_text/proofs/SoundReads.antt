@@ -1,24 +1,19 @@
 -- Reads that always have a value are in the grammar, where they are read.
-use Rattle.std.proofs.Common.{◌≡◌, ℕ, zero, suc, ◌≤◌, ◌<◌, Bool, true, false, if◌then◌else◌, List, [], ◌∷◌, ◌++◌, length, Option, Some, None, Ok, Err, refl, sym, ap, ◌∙◌, append_assoc, append-nil, arith, rules}
+use Rattle.std.proofs.Common.{◌≡◌, ℕ, ◌≤◌, ◌<◌, Bool, true, false, ◌∷◌, Option, Some, Ok, refl, sym, ap, ◌∙◌, arith, rules}
 use Rattle.eb_rule_text.specs.declared.lexemes.Lexeme.TheVariants as l
 use Rattle.eb_rule_text.specs.declared.marks.Mark.{Mark}
 use Rattle.eb_rule_text.specs.declared.marks.Mark.TheVariants as m
 use Rattle.eb_rule_text.specs.declared.trees.Context.{Context}
 use Rattle.eb_rule_text.specs.declared.trees.Context.TheVariants as c
 use Rattle.eb_rule_text.specs.declared.trees.FieldPath.{FieldPath}
-use Rattle.eb_rule_text.specs.declared.trees.Find.{Find}
-use Rattle.eb_rule_text.specs.declared.trees.Find.TheVariants as f
-use Rattle.eb_rule_text.specs.declared.trees.Reach.{Reach}
 use Rattle.eb_rule_text.specs.declared.trees.Read.{Read}
 use Rattle.eb_rule_text.specs.declared.trees.Read.TheVariants as r
-use Rattle.eb_rule_text.specs.Tokens.{Text}
-use Rattle.eb_rule_text.specs.Input.{Input, and_then, pure, mark}
+use Rattle.eb_rule_text.specs.Input.{Input, pure, mark}
 use Rattle.eb_rule_text.specs.Reading as spec
-use Rattle.eb_rule_text.specs.Spelled.{path_then, kind_then, member_then, path_in_then, link_in_then, reach_mark, find_then, has_find, read_then, has_read, read_levels}
-use Rattle.eb_rule_text.specs.Grammar.{IsFind, IsRead, AreFinds, no_find, a_find}
-use Rattle.eb_rule_text.proofs.Steps.{went, moved, ok_value, ok_rest, expected, opened, named}
-
-use Rattle.eb_rule_text.proofs.SoundFinds.{path_sound, of_kind_sound, member_sound, path_in_sound, link_in_sound, reached_sound}
+use Rattle.eb_rule_text.specs.Spelled.{read_then, has_read, read_levels}
+use Rattle.eb_rule_text.specs.Grammar.{IsRead}
+use Rattle.eb_rule_text.proofs.Steps.{went, moved, ok_value, expected, opened, named}
+use Rattle.eb_rule_text.proofs.SoundFinds.{path_sound, of_kind_sound, member_sound, path_in_sound, reached_sound}
 
 -- ---- reads that always have a value
 

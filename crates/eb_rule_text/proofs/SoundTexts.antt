@@ -1,5 +1,5 @@
 -- Whole texts are in the grammar, where they are read.
-use Rattle.std.proofs.Common.{◌≡◌, ℕ, zero, suc, ◌-◌, ◌<◌, ℤ, Bool, true, false, if◌then◌else◌, ◌==◌, List, [], ◌∷◌, ◌++◌, length, Option, Some, None, Ok, Err, refl, sym, ap, ◌∙◌, append_assoc, append-nil, arith, rules}
+use Rattle.std.proofs.Common.{◌≡◌, ℕ, zero, suc, ◌-◌, ◌<◌, ℤ, Bool, true, false, if◌then◌else◌, ◌==◌, List, [], ◌∷◌, ◌++◌, length, Option, Some, Ok, sym, ◌∙◌, append_assoc, append-nil, arith, rules}
 use Rattle.eb_rule_text.specs.declared.lexemes.Lexeme.TheVariants as l
 use Rattle.eb_rule_text.specs.declared.marks.Mark.{Mark}
 use Rattle.eb_rule_text.specs.declared.marks.Mark.TheVariants as m
@@ -18,7 +18,7 @@ use Rattle.eb_rule_text.specs.declared.trees.Command.{Command}
 use Rattle.eb_rule_text.specs.declared.trees.Command.TheVariants as a_command
 use Rattle.eb_rule_text.specs.declared.trees.JobTree.{JobTree}
 use Rattle.eb_rule_text.specs.Tokens.{Text}
-use Rattle.eb_rule_text.specs.Input.{Input, and_then, pure, refuse, mark, eat}
+use Rattle.eb_rule_text.specs.Input.{Input, and_then, pure, mark, eat}
 use Rattle.eb_rule_text.specs.Blocks as spec
 use Rattle.eb_rule_text.specs.Spelled.{link_in_then}
 use Rattle.eb_rule_text.specs.Grammar.{IsExpr, AreInits, EndStmts, AreNames, no_name, one_name, IsList, unwritten, written, IsQuery, queried, IsRule, a_baker, a_system, AreRules, no_rule, one_rule, IsRules, IsTarget, at_this, at_name, at_link, IsCommand, created, destroyed, removed, added_to, set_to, EndCommands, no_command, one_command, IsJob, a_job}
@@ -73,7 +73,7 @@ query_sound i j x h =
     let b = went _ _ x j a.onward in
     let n = went _ _ x j b.onward in
     query_moved i n.rest j x (spec.query_of a.value b.value n.value)
-        (queried (list_sound m.All i a.rest a.value a.first) (list_sound m.Any a.rest b.rest b.value b.first) (list_sound m.None b.rest n.rest n.value n.first)) n.onward
+    (queried (list_sound m.All i a.rest a.value a.first) (list_sound m.Any a.rest b.rest b.value b.first) (list_sound m.None b.rest n.rest n.value n.first)) n.onward
 
 -- ---- rules
 
@@ -90,7 +90,7 @@ baker_sound i j x h =
     let o = went _ _ x j n.onward in
     let q = went _ _ x j o.onward in
     baker_moved i a.rest b.rest n.rest o.rest q.rest j b.value o.value q.value x (expected _ _ _ _ a.first) (counted _ _ _ b.first) (expected _ _ _ _ n.first) (named _ _ _ o.first)
-        (body_sound c.Baker o.rest q.rest q.value q.first) q.onward
+    (body_sound c.Baker o.rest q.rest q.value q.first) q.onward
 
 system_moved : (i k n o t j : Input) (number : ℤ) (asked : Query) (body : List Stmt) (x : Rule) → i ≡ l.Mark m.System ∷ k → k ≡ l.Int number ∷ n → IsQuery n asked o
     → Braced (EndStmts c.System) 32 o body t → pure (a_rule.System (spec.system_of number asked body)) t ≡ Ok (x, j) → IsRule i x j
@@ -105,7 +105,7 @@ system_sound i j x h =
     let n = went _ _ x j b.onward in
     let o = went _ _ x j n.onward in
     system_moved i a.rest b.rest n.rest o.rest j b.value n.value o.value x (expected _ _ _ _ a.first) (counted _ _ _ b.first) (query_sound b.rest n.rest n.value n.first)
-        (body_sound c.System n.rest o.rest o.value o.first) o.onward
+    (body_sound c.System n.rest o.rest o.value o.first) o.onward
 
 rule_by_sound : (next : Option Mark) (i j : Input) (x : Rule) → spec.rule_by next i ≡ Ok (x, j) → IsRule i x j
 rule_by_sound (Some m.Baker) i j x h = baker_sound i j x h
@@ -217,7 +217,7 @@ remove_sound d i j x h =
     let b = went _ _ x j a.onward in
     let n = went _ _ x j b.onward in
     command_moved d i n.rest j x (a_command.Remove b.value n.value)
-        (remove_at d i a.rest b.rest n.rest b.value n.value (expected _ _ _ _ a.first) (target_sound d a.rest b.rest b.value b.first) (named _ _ _ n.first)) n.onward
+    (remove_at d i a.rest b.rest n.rest b.value n.value (expected _ _ _ _ a.first) (target_sound d a.rest b.rest b.value b.first) (named _ _ _ n.first)) n.onward
 
 add_at : (d : ℕ) (i k n o t : Input) (on : Target) (kind : Text) (values : List Init) → i ≡ l.Mark m.Add ∷ k → IsTarget d k on n → n ≡ l.Name kind ∷ o → AreInits c.Job d o values t → IsCommand d i (a_command.Add on kind values) t
 add_at d i k n o t on kind values e is f are = rw e (added_to (named_target d k n o on kind is f) are)
@@ -230,7 +230,7 @@ add_to_sound d i j x h =
     let n = went _ _ x j b.onward in
     let o = went _ _ x j n.onward in
     command_moved d i o.rest j x (a_command.Add b.value n.value o.value)
-        (add_at d i a.rest b.rest n.rest o.rest b.value n.value o.value (expected _ _ _ _ a.first) (target_sound d a.rest b.rest b.value b.first) (named _ _ _ n.first) (inits_sound c.Job d n.rest o.rest o.value o.first)) o.onward
+    (add_at d i a.rest b.rest n.rest o.rest b.value n.value o.value (expected _ _ _ _ a.first) (target_sound d a.rest b.rest b.value b.first) (named _ _ _ n.first) (inits_sound c.Job d n.rest o.rest o.value o.first)) o.onward
 
 set_at : (d : ℕ) (i k n o t : Input) (on : Target) (kind : Text) (values : List Init) → i ≡ l.Mark m.Set ∷ k → IsTarget d k on n → n ≡ l.Name kind ∷ o → AreInits c.Job d o values t → IsCommand d i (a_command.Set on kind values) t
 set_at d i k n o t on kind values e is f are = rw e (set_to (named_target d k n o on kind is f) are)
@@ -243,7 +243,7 @@ set_on_sound d i j x h =
     let n = went _ _ x j b.onward in
     let o = went _ _ x j n.onward in
     command_moved d i o.rest j x (a_command.Set b.value n.value o.value)
-        (set_at d i a.rest b.rest n.rest o.rest b.value n.value o.value (expected _ _ _ _ a.first) (target_sound d a.rest b.rest b.value b.first) (named _ _ _ n.first) (inits_sound c.Job d n.rest o.rest o.value o.first)) o.onward
+    (set_at d i a.rest b.rest n.rest o.rest b.value n.value o.value (expected _ _ _ _ a.first) (target_sound d a.rest b.rest b.value b.first) (named _ _ _ n.first) (inits_sound c.Job d n.rest o.rest o.value o.first)) o.onward
 
 command_by_sound : (d : ℕ) (next : Option Mark) (i j : Input) (x : Command) → spec.command_by d next i ≡ Ok (x, j) → IsCommand d i x j
 command_by_sound d (Some m.Create) i j x h = create_sound d i j x h
@@ -293,7 +293,7 @@ one_job_sound i j x h none =
     let q = went _ _ x j o.onward in
     let list = commands_sound o.rest q.rest q.value q.first in
     let is = job_at i a.rest b.rest n.rest o.rest list.rest q.rest b.value o.value q.value (expected _ _ _ _ a.first) (query_sound a.rest b.rest b.value b.first) (expected _ _ _ _ n.first)
-        (expression_sound c.Job 32 n.rest o.rest o.value o.first) list.tokens list.are (ok_rest q.onward ∙ none) in
+    (expression_sound c.Job 32 n.rest o.rest o.value o.first) list.tokens list.are (ok_rest q.onward ∙ none) in
     job_moved i q.rest j x (spec.job_of b.value o.value q.value) is q.onward
 
 pub job_sound : (i j : Input) (x : JobTree) → spec.job i ≡ Ok (x, j) → IsJob i x

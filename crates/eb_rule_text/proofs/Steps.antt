@@ -1,13 +1,12 @@
 -- What it says of the tokens that one step of a reader went well.
-use Rattle.std.proofs.Common.{◌≡◌, ◌≢◌, ℕ, zero, suc, ◌<◌, ℤ, Bool, true, false, if◌then◌else◌, ◌==◌, List, [], ◌∷◌, length, drop, Option, Some, None, Result, Ok, Err, refl, sym, ap, ◌∙◌, arith, rules}
+use Rattle.std.proofs.Common.{◌≡◌, ℕ, ◌<◌, ℤ, Bool, true, false, if◌then◌else◌, ◌==◌, [], ◌∷◌, length, drop, Ok, Err, refl, ap, arith, rules}
 use denote.Enum.Bare.{same_true}
 use Rattle.eb_rule_text.specs.contracts.marks.Mark.{the_type}
-use Rattle.eb_rule_text.specs.declared.errors.ReadError.{ReadError}
 use Rattle.eb_rule_text.specs.declared.errors.ReadError.TheVariants.{Depth}
 use Rattle.eb_rule_text.specs.declared.lexemes.Lexeme.TheVariants as l
 use Rattle.eb_rule_text.specs.declared.marks.Mark.{Mark}
 use Rattle.eb_rule_text.specs.Tokens.{Text}
-use Rattle.eb_rule_text.specs.Input.{Input, Outcome, Parser, and_then, pure, refuse, mark, same_mark, sees, expect, eat, opens, name, int, end}
+use Rattle.eb_rule_text.specs.Input.{Input, Outcome, Parser, and_then, pure, refuse, same_mark, sees, expect, eat, opens, name, int, end}
 
 -- both halves of two steps that went well
 pub record Went {A B : Type 0} (r : Outcome A) (f : A → Parser B) (b : B) (j : Input) : Type 0 where

@@ -5,4 +5,6 @@ pub mod Reading
 pub mod Blocks
 pub mod Spelled
 pub mod Grammar
+pub mod Spelling
+pub mod Printing
 pub mod Passes

@@ -1,5 +1,5 @@
 -- The tokens of what is always spelled alike but for its names, and where it may stand.
-use Rattle.std.specs.Prelude.{ℕ, Bool, true, false, List, [], ◌∷◌}
+use Rattle.std.specs.Prelude.{ℕ, Bool, true, false, ◌∷◌}
 use Rattle.eb_rule_text.specs.declared.lexemes.Lexeme.TheVariants as l
 use Rattle.eb_rule_text.specs.declared.marks.Mark.{Mark}
 use Rattle.eb_rule_text.specs.declared.marks.Mark.TheVariants as m

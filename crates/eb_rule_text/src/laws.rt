@@ -1,8 +1,10 @@
 // That the reader and the grammar are one.
-ghost use Rattle.std.specs.Prelude.{◌≡◌, Ok};
+ghost use Rattle.std.specs.Prelude.{◌≡◌, [], ℕ, List, Ok};
 ghost use Rattle.eb_rule_text.specs.Blocks as spec;
 ghost use Rattle.eb_rule_text.specs.Grammar.{IsJob, IsRules};
 ghost use Rattle.eb_rule_text.specs.Input.{Input};
+ghost use Rattle.eb_rule_text.specs.Passes.{placed, read_text};
+ghost use Rattle.eb_rule_text.specs.Printing.{job_text, rules_text};
 ghost use Rattle.eb_rule_text.specs.declared.trees.JobTree.{JobTree};
 ghost use Rattle.eb_rule_text.specs.declared.trees.RulesTree.{RulesTree};
 
@@ -10,4 +12,18 @@ ghost use Rattle.eb_rule_text.specs.declared.trees.RulesTree.{RulesTree};
 pub fn read_is_in_grammar()
     ensures rules { (i j : Input) (x : RulesTree) → spec.rules i ≡ Ok (x, j) → IsRules i x }
     ensures job { (i j : Input) (x : JobTree) → spec.job i ≡ Ok (x, j) → IsJob i x }
+{}
+
+/// The law that what is in the grammar is read, as that tree. So a list of tokens has at most one tree, and what is refused has none.
+pub fn grammar_is_read()
+    ensures rules { (i : Input) (x : RulesTree) → IsRules i x → spec.rules i ≡ Ok (x, []) }
+    ensures job { (i : Input) (x : JobTree) → IsJob i x → spec.job i ≡ Ok (x, []) }
+{}
+
+/// The law that a tree that was read from a text is read again from the text that it is printed as.
+pub fn printed_reads_back()
+    ensures rules { (text : List ℕ) (x : RulesTree) (places : List ℕ) → read_text spec.rules text ≡ Ok (placed x places)
+        → (more : List ℕ) × (read_text spec.rules (rules_text x) ≡ Ok (placed x more)) }
+    ensures job { (text : List ℕ) (x : JobTree) (places : List ℕ) → read_text spec.job text ≡ Ok (placed x places)
+        → (more : List ℕ) × (read_text spec.job (job_text x) ≡ Ok (placed x more)) }
 {}

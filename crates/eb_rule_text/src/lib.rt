@@ -13,8 +13,10 @@ pub mod lexing;
 pub mod marks;
 pub mod parsing;
 pub mod passes;
+pub mod printing;
 mod queries;
 mod reads;
+mod spelling;
 pub mod trees;
 
 pub use errors::{ReadError, TextError, TokenError};
