@@ -1,6 +1,6 @@
 -- What every step keeps: each entity of the world is a row of the published image, and the section is loaded.
-use Rattle.std.proofs.Common.{◌≡◌, ℕ, zero, suc, Bool, true, false, List, [], ◌∷◌, length, map, refl, sym, ap, ◌∙◌, arith, subst}
-use Rattle.std.specs.Prelude.{Option, None, Some, IfSome, IsSomeAnd, Contains, All, ℤ, option_map, slice_index_or}
+use Rattle.std.proofs.Common.{◌≡◌, ℕ, zero, suc, Bool, true, false, [], ◌∷◌, refl, sym, ap, ◌∙◌, arith}
+use Rattle.std.specs.Prelude.{Option, None, Some, IfSome, All, ℤ, option_map, slice_index_or}
 use Rattle.std.specs.FinMap.{empty, get, get-empty, same_map}
 use Rattle.std.proofs.lemmas.List.Elements.{All-map}
 use Rattle.eb_base.specs.declared.names.Name.{Name}
@@ -10,7 +10,6 @@ use Rattle.eb_file.specs.declared.images.Image.{Image}
 use Rattle.eb_file.specs.declared.images.StoredCell.{StoredCell}
 use Rattle.eb_file.specs.declared.images.ImageRow.{ImageRow}
 use Rattle.eb_file.specs.declared.images.Stored.TheVariants as stored
-use Rattle.eb_file.specs.Images.{names_of}
 use Rattle.eb_world.specs.Worlds.{Live, Living}
 use Rattle.eb_stream.specs.Loading.{AllOf, IsNumber, HasNumbersAlone, loaded, unloaded}
 use Rattle.eb_stream.proofs.SectionFacts.{found_first, unloaded_all}

@@ -1,5 +1,5 @@
 -- The session as a machine: a line and a state give a reply, a new state and the files of the folder.
-use Rattle.std.specs.Prelude.{◌≡◌, ℕ, ◌≤◌, IfSome, IsSomeAnd, Contains, ◌+◌, ◌++◌, ℤ, Bool, true, false, not, Option, None, Some, option_map, List, length, codes, refl}
+use Rattle.std.specs.Prelude.{◌≡◌, ℕ, ◌≤◌, IfSome, IsSomeAnd, Contains, ◌+◌, ◌++◌, ℤ, Bool, true, false, not, Option, None, Some, List, length, codes, refl}
 use Rattle.std.specs.Fmt.{decimal}
 use Rattle.std.specs.FinMap.{code, get, insert, len}
 use Rattle.std.specs.Coded.{Coded, code_by, coded×, coded_list, coded_option, coded_bool, coded_ℕ, coded_ℤ}

@@ -12,5 +12,5 @@ pub mod sessions;
 
 pub use errors::{OpenEnd, SessionEnd};
 pub use replies::Reply;
-pub use requests::Request;
+pub use requests::{LineMode, Request};
 pub use sessions::Session;

@@ -13,6 +13,13 @@ use std::alloc::Global;
 /// The most bytes that a line may have, without its line feed.
 pub const MOST_LINE_BYTES: usize = 65536;
 
+/// Where a line comes from.
+#[derive(Clone, Copy, Debug, PartialEq, Eq)]
+pub enum LineMode {
+    /// From the input of a session, in which every request may come.
+    Free,
+}
+
 /// What a line asks for.
 #[derive(Clone, Copy, Debug, PartialEq, Eq)]
 pub enum Request {

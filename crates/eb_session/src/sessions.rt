@@ -14,9 +14,9 @@ use crate::object_table::ObjectTable;
 use crate::plain_project::project_objects;
 use crate::replies;
 use crate::replies::Reply;
-use crate::requests::{Request, read_request};
+use crate::requests::{LineMode, Request, read_request};
 use crate::sections::{Published, bring_in, is_new, new_world, take_out, take_over, times_loaded, world_text};
-use eb_base::Memory;
+use eb_base::{Memory, Steps};
 use eb_file::encode;
 use eb_json::document;
 use eb_outside::Shelf;
@@ -24,6 +24,7 @@ use eb_schema::Schema;
 use eb_world::World;
 use std::alloc::{AllocError, Global};
 use std::marker::Model;
+use std::sync::ledger::Ledger;
 
 /// The file that a session is opened from.
 const PROJECT_FILE: &str = "project.json";
@@ -88,9 +89,14 @@ fn section_file(alloc: Global, generation: u64) -> Result<String, AllocError>
 }
 
 impl Session {
-    /// Opens a session on the folder: reads `project.json`.
+    /// Opens a session on the folder: reads `project.json`. Baking will count its runs in `steps`; none are
+    /// counted yet.
     #[tactic(auto, unfolding(crate::specs::Opening::opened))]
-    pub fn open<H: Shelf>(alloc: Global, shelf: &mut H) -> Result<Self, OpenEnd>
+    pub fn open<H: Shelf, L: Ledger>(
+        alloc: Global,
+        shelf: &mut H,
+        _steps: &mut Steps<L>,
+    ) -> Result<Self, OpenEnd>
         ensures opened { IfSome (H.files shelf.old) (λ files. OpensAs result (opened files)) }
         ensures first { IfOk result (λ session. session.generation ≡ 0) }
         ensures empty { IfOk result (λ session. session.made ≡ 0) }
@@ -222,9 +228,15 @@ impl Session {
     }
 
     /// Answers one line, without its line feed. The shelf can end the session where the line asks for a
-    /// publication, and nowhere else.
+    /// publication, and nowhere else. Baking will count its runs in `steps`; none are counted yet.
     #[tactic(auto, unfolding(crate::specs::Machine::answered))]
-    pub fn line<H: Shelf>(&mut self, line: &[u8], shelf: &mut H) -> Result<Reply, SessionEnd>
+    pub fn line<H: Shelf, L: Ledger>(
+        &mut self,
+        _mode: LineMode,
+        line: &[u8],
+        shelf: &mut H,
+        _steps: &mut Steps<L>,
+    ) -> Result<Reply, SessionEnd>
         requires generation { self.old.generation < 2 ^ 62 }
         requires made { self.old.made + 16384 < 2 ^ 62 }
         ensures step { IfOk result (λ reply. option_map (answered line.now self.old) (H.files shelf.old) ≡ option_map (step reply.text self.new) (H.files shelf.new)) }

@@ -1,14 +1,13 @@
 -- What lives once a section is loaded, and once it is unloaded.
-use Rattle.std.proofs.Common.{◌≡◌, ◌⊎◌, inl, inr, ℕ, suc, arith, Bool, true, false, List, [], ◌∷◌, refl, sym, ap, ◌∙◌, map}
+use Rattle.std.proofs.Common.{◌≡◌, ◌⊎◌, inl, inr, suc, arith, Bool, true, false, List, [], ◌∷◌, refl, sym, ap, ◌∙◌}
 use Rattle.std.specs.Prelude.{Option, None, Some, cond, not, is_some, option_map, Contains}
 use Rattle.std.specs.Ordering.{eq_by_cmp}
 use Rattle.std.specs.Cmp.{eq_by_cmp_equiv}
-use Rattle.std.specs.FinMap.{FinMap, empty, get, insert, keys, retain_keys, get-insert, get-retain_keys, get-empty, contains_key-keys, same_map}
+use Rattle.std.specs.FinMap.{empty, get, insert, retain_keys, get-insert, get-retain_keys, get-empty, contains_key-keys, same_map}
 use Rattle.eb_base.specs.declared.names.Name.{Name}
 use Rattle.eb_base.specs.declared.names.Place.{Place}
 use Rattle.eb_base.specs.Names.{name_cmp}
-use Rattle.eb_base.specs.Places.{place_cmp}
-use Rattle.eb_base.specs.Maps.{kept_values, map_values, passing}
+use Rattle.eb_base.specs.Maps.{kept_values, passing}
 use Rattle.eb_base.proofs.MapLaws.{get-map_values, get-kept_values}
 use Rattle.eb_base.proofs.NameOrder.{names_total, exact_names, places_total}
 use Rattle.eb_file.specs.declared.images.ImageRow.{ImageRow}

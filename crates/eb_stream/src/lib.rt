@@ -5,8 +5,6 @@
 pub mod laws;
 pub mod load_faults;
 pub mod loading;
-#[cfg(test)]
-mod tests;
 pub mod world_rows;
 
 pub use load_faults::LoadFault;

@@ -11,8 +11,11 @@ use crate::limits::Limits;
 use crate::outlet::give_kept;
 use crate::stops::Stop;
 use eb_outside::{Shelf, Sink};
-use eb_session::Session;
+use eb_base::Steps;
+use eb_session::{LineMode, Session};
 use std::alloc::{AllocError, Global};
+use std::marker::Brand;
+use std::sync::ledger::{Blank, Ledger};
 
 /// How many bytes of an unfinished line are kept: one more than a request may have.
 const MOST_KEPT_BYTES: usize = 65537;
@@ -35,13 +38,17 @@ pub struct Reader {
     pub bytes: u64,
 }
 
-/// Answers a line, behind the replies that are kept.
-fn answer<H: Shelf>(
+/// Answers a line, behind the replies that are kept. Its steps are counted by themselves.
+fn answer<H: Shelf, L: Ledger>(
+    blank: Blank,
     session: &mut Session,
     line: &[u8],
     shelf: &mut H,
     kept: &mut Vec<u8>,
 ) -> Result<(), Stop>
+    requires name { blank.name ≡ L.name }
+    requires parts { blank.parts ≡ L.parts }
+    requires some { 0 < blank.parts }
     requires generation { session.old.generation < 2 ^ 62 }
     requires made { session.old.made + 16384 < 2 ^ 62 }
     ensures told { OnOk result (Answers line.now session.old session.new (H.files shelf.old) (H.files shelf.new) kept.old.items kept.new.items) }
@@ -53,7 +60,8 @@ fn answer<H: Shelf>(
     ensures publishes { IsErrOf result Stop.Outside → request_of line.now ≡ Some Publish }
     ensures no_limit { IsErrOf result Stop.Limit → ⊥ }
 {
-    let reply = session.line(line, shelf)?;
+    let mut steps: Steps<L> = Steps::open(blank);
+    let reply = session.line(LineMode::Free, line, shelf, &mut steps)?;
     kept.extend_from_slice(reply.text.bytes())?;
     Ok(())
 }
@@ -118,7 +126,13 @@ impl Reader {
         ensures publishes { IsErrOf result Stop.Outside → request_of self.old.line.items ≡ Some Publish }
         ensures no_limit { IsErrOf result Stop.Limit → ⊥ }
     {
-        answer(&mut self.session, self.line.as_slice(), shelf, kept)?;
+        answer::<H, Brand>(
+            Blank::new(1),
+            &mut self.session,
+            self.line.as_slice(),
+            shelf,
+            kept,
+        )?;
         self.lines -= 1;
         self.bytes -= self.line.len() as u64 + self.skipped + 1;
         self.line.clear();
@@ -194,7 +208,13 @@ impl Reader {
         if self.line.is_empty() {
             return Ok(());
         }
-        answer(&mut self.session, self.line.as_slice(), shelf, kept)?;
+        answer::<H, Brand>(
+            Blank::new(1),
+            &mut self.session,
+            self.line.as_slice(),
+            shelf,
+            kept,
+        )?;
         Ok(())
     }
 

@@ -1,8 +1,8 @@
 // The whole run: words, opening, lines, status.
-ghost use Rattle.std.specs.Prelude.{◌≡◌, ◌≢◌, ◌≤◌, ◌-◌, ◌^◌, ◌⊎◌, ℕ, Bool, true, false, None, Ok, IfOk, IfSome, IsErrOf, ◌↔◌};
+ghost use Rattle.std.specs.Prelude.{◌≡◌, ◌≢◌, ◌<◌, ◌≤◌, ◌-◌, ◌^◌, ◌⊎◌, ℕ, Bool, true, false, None, Ok, IfOk, IfSome, IsErrOf, ◌↔◌};
 ghost use Rattle.eb_outside.specs.Causes.{Rose};
 ghost use Rattle.ebake.specs.Words.{is_form};
-ghost use Rattle.eb_session.specs.Opening.{opened};
+ghost use Rattle.eb_session.specs.Opening.{opened, OpensAs};
 ghost use Rattle.ebake.specs.Told.{told, ended, IsFaultless, IsWithin, WhereTold};
 ghost use Rattle.ebake.specs.Progress.{IsFront, Follows, IsSpent};
 ghost use Rattle.ebake.specs.Faults.{HasAnswered, IsAtOpening, IsAtPublication};
@@ -12,11 +12,34 @@ use crate::outlet::give_all;
 use crate::serving::answer_lines;
 use crate::stops::Stop;
 use crate::words::{is_session, usage};
-use eb_base::Text;
+use eb_base::{Steps, Text};
 use eb_outside::{Shelf, Sink, Source};
 use eb_session::{OpenEnd, Session};
 use std::alloc::Global;
+use std::marker::Brand;
+use std::sync::ledger::{Blank, Ledger};
 use std::thread::Threads;
+
+/// Opens a session on the folder. Its steps are counted by themselves.
+fn open_session<H: Shelf, L: Ledger>(
+    blank: Blank,
+    alloc: Global,
+    shelf: &mut H,
+) -> Result<Session, OpenEnd>
+    requires name { blank.name ≡ L.name }
+    requires parts { blank.parts ≡ L.parts }
+    requires some { 0 < blank.parts }
+    ensures opened { IfSome (H.files shelf.old) (λ files. OpensAs result (opened files)) }
+    ensures first { IfOk result (λ session. session.generation ≡ 0) }
+    ensures empty { IfOk result (λ session. session.made ≡ 0) }
+    ensures files { H.files shelf.new ≡ H.files shelf.old }
+    ensures later { H.faults shelf.old ≤ H.faults shelf.new }
+    ensures cause { IsErrOf result OpenEnd.Shelf → Rose (H.faults shelf.old) (H.faults shelf.new) }
+{
+    let mut steps: Steps<L> = Steps::open(blank);
+    let session = Session::open(alloc, shelf, &mut steps)?;
+    Ok(session)
+}
 
 /// The status of the words' run, or why it stopped.
 fn outcome<H: Shelf, I: Source, O: Sink>(
@@ -48,7 +71,7 @@ fn outcome<H: Shelf, I: Source, O: Sink>(
         give_all(sink, usage())?;
         return Ok(2);
     }
-    match Session::open(alloc, shelf) {
+    match open_session::<H, Brand>(Blank::new(1), alloc, shelf) {
         Ok(session) => answer_lines(alloc, limits, session, shelf, source, sink),
         Err(OpenEnd::Refused { line }) => {
             give_all(sink, line.bytes())?;

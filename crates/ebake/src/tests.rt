@@ -65,6 +65,62 @@ fn session<'a>(input: &'a str, output: &'a str) -> Case<'a> {
     }
 }
 
+/// Three objects, not in the order of their numbers.
+const THREE_OBJECTS: &str =
+    r#"{"assets":[],"scenes":[{"number":1,"objects":[{"components":{"Value":{"v":-5}},"number":4294967295,"parent":null,"section":null},{"components":{"Value":{"v":10}},"number":10,"parent":null,"section":null},{"components":{"Value":{"v":9}},"number":9,"parent":null,"section":null}]}]}"#;
+
+/// Loads the section before and after its publication, changes it, prints it and unloads it.
+const WORLD_REQUESTS: &str = concat!(
+    r#"{"do":"load","scene":1,"section":0}"#,
+    "\n",
+    r#"{"do":"unload","scene":1,"section":0}"#,
+    "\n",
+    r#"{"do":"publish"}"#,
+    "\n",
+    r#"{"do":"unload","scene":1,"section":0}"#,
+    "\n",
+    r#"{"do":"load","scene":1,"section":0}"#,
+    "\n",
+    r#"{"do":"load","scene":1,"section":0}"#,
+    "\n",
+    r#"{"do":"set_field","field":"v","kind":"Value","object":1,"scene":1,"value":8}"#,
+    "\n",
+    r#"{"do":"dump"}"#,
+    "\n",
+    r#"{"do":"publish"}"#,
+    "\n",
+    r#"{"do":"dump"}"#,
+    "\n",
+    r#"{"do":"publish"}"#,
+    "\n",
+    r#"{"do":"unload","scene":1,"section":0}"#,
+    "\n",
+    r#"{"do":"unload","scene":1,"section":0}"#,
+    "\n",
+    r#"{"do":"dump"}"#,
+    "\n",
+    r#"{"do":"load","scene":1,"section":0}"#,
+    "\n"
+);
+
+const WORLD_REPLIES: &str = concat!(
+    "E18 NoSection\n",
+    "E18 NoSection\n",
+    "ok published 1 changed 1 reloaded 0\n",
+    "E20 NotLoaded\n",
+    "ok loaded 1\n",
+    "E19 AlreadyLoaded\n",
+    "ok rebaked 1 of 1\n",
+    "0.1.1.0 1:0 Value(v=7)\nok dumped 1\n",
+    "ok published 2 changed 1 reloaded 1\n",
+    "0.1.1.0 1:0 Value(v=8)\nok dumped 1\n",
+    "ok published 3 changed 0 reloaded 0\n",
+    "ok unloaded 1\n",
+    "E20 NotLoaded\n",
+    "ok dumped 0\n",
+    "ok loaded 1\n"
+);
+
 /// The numbers of the calls that fail, of the shelf, the source and the sink.
 #[derive(Clone, Copy)]
 struct Failing {
@@ -263,7 +319,7 @@ fn words_and_folders(rt: HostRuntime) -> Result<(), Fail> {
 }
 
 /// Inputs of a session on `PROJECT`, each with its output.
-const INPUTS: [(&str, &str); 14] = [
+const INPUTS: [(&str, &str); 21] = [
     ("", ""),
     ("\n", "E2 NotYet\n"),
     ("{\n", "E2 NotYet\n"),
@@ -308,6 +364,13 @@ const INPUTS: [(&str, &str); 14] = [
         r#"{"value":-1,"scene":1,"object":1,"kind":"Value","field":"v","do":"set_field"}"#,
         "ok rebaked 1 of 1\n",
     ),
+    (WORLD_REQUESTS, WORLD_REPLIES),
+    (r#"{"do":"dump"}"#, "ok dumped 0\n"),
+    (r#"{"do":"dump","scene":1}"#, "E2 NotYet\n"),
+    (r#"{"do":"load","scene":1}"#, "E2 NotYet\n"),
+    (r#"{"do":"load","scene":2,"section":0}"#, "E2 NotYet\n"),
+    (r#"{"do":"load","scene":1,"section":1}"#, "E2 NotYet\n"),
+    (r#"{"do":"unload","scene":1,"section":"0"}"#, "E2 NotYet\n"),
 ];
 
 /// Plays the inputs, and answers the first whose output is another.
@@ -355,6 +418,19 @@ fn lines(rt: HostRuntime) -> Result<(), Fail> {
     Ok(())
 }
 
+#[test]
+fn entities_by_name(rt: HostRuntime) -> Result<(), Fail> {
+    let case = Case {
+        project: Some(THREE_OBJECTS),
+        ..session(
+            "{\"do\":\"publish\"}\n{\"do\":\"load\",\"scene\":1,\"section\":0}\n{\"do\":\"dump\"}\n",
+            "ok published 1 changed 1 reloaded 0\nok loaded 3\n0.1.9.0 1:0 Value(v=9)\n0.1.10.0 1:0 Value(v=10)\n0.1.4294967295.0 1:0 Value(v=-5)\nok dumped 3\n",
+        )
+    };
+    assert!(rt; ends_well(&rt, rt.alloc(), &case)?);
+    Ok(())
+}
+
 const TWO_LINES: &str = "{\"do\":\"publish\"}\n{\"do\":\"publish\"}\n";
 
 const ONE_REPLY: &str = "ok published 1 changed 1 reloaded 0\n";
@@ -363,7 +439,7 @@ const TWO_REPLIES: &str =
     "ok published 1 changed 1 reloaded 0\nok published 2 changed 0 reloaded 0\n";
 
 /// Limits on lines and bytes, an input, and the status and output of its session.
-const LIMITS: [(u32, u32, &str, u8, &str); 13] = [
+const LIMITS: [(u32, u32, &str, u8, &str); 14] = [
     (
         2,
         100,
@@ -389,6 +465,13 @@ const LIMITS: [(u32, u32, &str, u8, &str); 13] = [
     (9, 0, "", 0, ""),
     (9, 0, "\n", 5, ""),
     (1, 17, TWO_LINES, 5, ONE_REPLY),
+    (
+        2,
+        100,
+        "{\"do\":\"dump\"}\n{\"do\":\"dump\"}\n{\"do\":\"dump\"}\n",
+        5,
+        "ok dumped 0\nok dumped 0\n",
+    ),
 ];
 
 /// Plays the sessions under limits, and answers the first that ends otherwise: its limits.

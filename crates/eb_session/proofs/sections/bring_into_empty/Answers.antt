@@ -1,4 +1,4 @@
-use Rattle.std.proofs.Common.{◌≡◌, ℕ, ap, ◌∙◌, ◌≤◌, length, slice_index_or, arith}
+use Rattle.std.proofs.Common.{◌≡◌, ap, ◌∙◌, ◌≤◌, length, slice_index_or, arith}
 use Rattle.std.specs.FinMap.{get, len, get-empty, len-empty}
 use Rattle.eb_base.specs.Names.{name_cmp}
 use Rattle.eb_world.specs.Worlds.{Living}

@@ -40,7 +40,7 @@ returns-in_err-give_all-in-Err-Refused-clause-told g c =
     let said : c.bytes.result.now ≡ c.in-Err-Refused.line = c.bytes.ensures ∙ c.in-Err-Refused.line-is in
     let same = told-refused lines bytes c.args.words.now c.in-Err-Refused.line files left base form refused ∙ ap (λ t. ended 3 files left (appended base t)) (sym said) in
     rw (p.1, p.2) (Follows-given c.in_err-give_all-in-Err-Refused.field-0.0 3 c.in_err-give_all-in-Err-Refused.ensures.front.0 c.bytes.result.now (told lines bytes c.args.words.now files left base)
-    files (g.H.Shelf.files c.open.new.shelf) left base (g.O.Sink.put c.give_all-in-Err-Refused.new.sink) same c.in_err-give_all-in-Err-Refused.ensures.front.1)
+    files (g.H.Shelf.files c.open_session.new.shelf) left base (g.O.Sink.put c.give_all-in-Err-Refused.new.sink) same c.in_err-give_all-in-Err-Refused.ensures.front.1)
 
 pub returns-in-Ok-clause-told : goal.returns-in-Ok-clause-told
 returns-in-Ok-clause-told g c =
@@ -51,7 +51,7 @@ returns-in-Ok-clause-told g c =
     let bytes = c.args.limits.now.bytes in
     let form : is_form c.args.words.now ≡ true = grind arith in
     let same = told-opened lines bytes c.args.words.now c.in-Ok.session files left base form c.in-Ok.ensures.opened ∙ ap (λ f. whole (first_standing lines bytes c.in-Ok.session) f left base) (sym c.in-Ok.ensures.files) in
-    Follows-same c.answer_lines.result (told lines bytes c.args.words.now files left base) (whole (first_standing lines bytes c.in-Ok.session) (g.H.Shelf.files c.open.new.shelf) left base)
+    Follows-same c.answer_lines.result (told lines bytes c.args.words.now files left base) (whole (first_standing lines bytes c.in-Ok.session) (g.H.Shelf.files c.open_session.new.shelf) left base)
     (g.H.Shelf.files c.answer_lines.new.shelf) (g.I.Source.left c.answer_lines.new.source) (g.O.Sink.put c.answer_lines.new.sink) same c.answer_lines.ensures.told
 
 pub returns-in_ok-give_all-in-Err-Refused-clause-told : goal.returns-in_ok-give_all-in-Err-Refused-clause-told
@@ -65,7 +65,7 @@ returns-in_ok-give_all-in-Err-Refused-clause-told g c =
     let refused = rw c.in-Err-Refused.field-0-is at c.in-Err-Refused.ensures.opened in
     let said : c.bytes.result.now ≡ c.in-Err-Refused.line = c.bytes.ensures ∙ c.in-Err-Refused.line-is in
     told-refused lines bytes c.args.words.now c.in-Err-Refused.line files left base form refused ∙ ap (λ t. ended 3 files left (appended base t)) (sym said)
-    ∙ ap (λ f. ended 3 f left (appended base c.bytes.result.now)) (sym c.in-Err-Refused.ensures.files) ∙ ap (ended 3 (g.H.Shelf.files c.open.new.shelf) left) (sym c.in_ok-give_all-in-Err-Refused.ensures.ok)
+    ∙ ap (λ f. ended 3 f left (appended base c.bytes.result.now)) (sym c.in-Err-Refused.ensures.files) ∙ ap (ended 3 (g.H.Shelf.files c.open_session.new.shelf) left) (sym c.in_ok-give_all-in-Err-Refused.ensures.ok)
 
 pub returns-in-Err-Shelf-clause-told : goal.returns-in-Err-Shelf-clause-told
 returns-in-Err-Shelf-clause-told g c =

@@ -1,6 +1,5 @@
-use Rattle.std.proofs.Common.{◌∙◌, ap}
+use Rattle.std.proofs.Common.{ap}
 use Rattle.eb_file.specs.declared.images.Image.{Image}
-use Rattle.eb_session.specs.Machine.{IsSection}
 use Rattle.eb_session.proofs.sessions.Session.baked.Goals as goal
 
 pub returns-clause-section : goal.returns-clause-section

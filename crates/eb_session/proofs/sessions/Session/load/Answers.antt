@@ -1,4 +1,4 @@
-use Rattle.std.proofs.Common.{◌∙◌, refl, ap, sym}
+use Rattle.std.proofs.Common.{◌∙◌, ap}
 use Rattle.std.specs.Prelude.{option_map}
 use Rattle.eb_session.specs.declared.sections.Published.{Published}
 use Rattle.eb_session.proofs.KeptFacts.{IsKept-empty, IsKept-loaded, nothing_lives, published_section}

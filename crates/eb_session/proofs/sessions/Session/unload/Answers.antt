@@ -1,4 +1,4 @@
-use Rattle.std.proofs.Common.{◌∙◌, ap, sym}
+use Rattle.std.proofs.Common.{◌∙◌}
 use Rattle.eb_session.proofs.KeptFacts.{IsKept-empty}
 use Rattle.eb_session.proofs.sessions.Session.unload.Goals as goal
 
