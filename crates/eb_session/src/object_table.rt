@@ -24,7 +24,7 @@ pub struct ObjectTable {
 
 impl Model for ObjectTable {
     ghost use Rattle.eb_stream.specs.Loading.{HasNumbersAlone};
-ghost use Rattle.eb_session.specs.Objects.{Objects, IsScene};
+    ghost use Rattle.eb_session.specs.Objects.{Objects, IsScene};
 
     ghost Value = { Objects };
 

@@ -15,7 +15,9 @@ use crate::plain_project::project_objects;
 use crate::replies;
 use crate::replies::Reply;
 use crate::requests::{LineMode, Request, read_request};
-use crate::sections::{Published, bring_in, is_new, new_world, take_out, take_over, times_loaded, world_text};
+use crate::sections::{
+    Published, bring_in, is_new, new_world, take_out, take_over, times_loaded, world_text,
+};
 use eb_base::{Memory, Steps};
 use eb_file::encode;
 use eb_json::document;
@@ -63,7 +65,7 @@ impl Model for Session {
     } };
 
     ghost invariant = { λ s. (s.schema ≡ plain_types) × (s.world.types ≡ plain_types) × IfSome s.published (λ p. p.bytes.items ≡ bytes_of p.image)
-      × IsKept (record { objects = s.objects; generation = s.generation; published = option_map (λ p. p.image) s.published; is_loaded = s.is_loaded; live = s.world.live; made = s.world.made }) };
+        × IsKept (record { objects = s.objects; generation = s.generation; published = option_map (λ p. p.image) s.published; is_loaded = s.is_loaded; live = s.world.live; made = s.world.made }) };
 }
 
 /// The objects that the bytes of a project file spell. None where there is no file, or another document.
@@ -199,7 +201,12 @@ impl Session {
             return replies::already_loaded(alloc);
         }
         let reply = replies::loaded(alloc, published.image.rows.items().len() as u32)?;
-        bring_in(alloc, &mut self.world, &mut self.is_loaded, &published.image)?;
+        bring_in(
+            alloc,
+            &mut self.world,
+            &mut self.is_loaded,
+            &published.image,
+        )?;
         Ok(reply)
     }
 

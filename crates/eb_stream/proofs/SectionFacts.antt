@@ -62,17 +62,17 @@ found_loaded live tag [] q l has = inl has
 found_loaded live tag (row ∷ rows) q l has =
     let fresh = living tag (cells_of row) in
     elim (found_loaded (insert live row.name fresh) tag rows q l has) [
-      inl before ↦ elim (found_new q row.name fresh l (get live q) (eq_by_cmp name_cmp q row.name) refl (sym (get-insert names_total live row.name fresh q) ∙ before)) [
-          inl older ↦ inl older
+      | inl before ↦ elim (found_new q row.name fresh l (get live q) (eq_by_cmp name_cmp q row.name) refl (sym (get-insert names_total live row.name fresh q) ∙ before)) [
+        | inl older ↦ inl older
         | inr this ↦ inr (ap (λ (l : Living). l.tag) this.1, first_name row rows q this.0)
-        ]
-    | inr here ↦ inr (here.0, later_name row rows q here.1)
+      ]
+      | inr here ↦ inr (here.0, later_name row rows q here.1)
     ]
 
 -- of an empty world, each that lives then is one of the rows
 pub found_first : (image : Image) (q : Name) (l : Living) → HasNumbersAlone image → get (loaded empty image) q ≡ Some l → (l.tag ≡ Some image.place) × Contains (names_of image.rows) q
 found_first image q l numbers has =
     elim (found_loaded empty (Some image.place) image.rows q l (ap (λ m. get m q) (sym (loaded_numbers empty image numbers)) ∙ has)) [
-      inl none ↦ absurd (cc (get-empty {X = Living} name_cmp q, none))
-    | inr here ↦ here
+      | inl none ↦ absurd (cc (get-empty {X = Living} name_cmp q, none))
+      | inr here ↦ here
     ]

@@ -11,11 +11,9 @@ ghost use Rattle.eb_stream.specs.Loading.{AllOf, HasNumbersAlone, loaded, unload
 /// Where every entity came from a section, nothing lives once it is unloaded.
 pub fn nothing_else_lives()
     ensures { (live : Live) (place : Place) → AllOf (Some place) live → unloaded live place ≡ finite.empty }
-{
-}
+{}
 
 /// What lives in an empty world once an image is loaded is one of the image's rows, tagged with its place.
 pub fn rows_alone_live()
     ensures { (image : Image) (name : Name) (l : Living) → HasNumbersAlone image → finite.get (loaded finite.empty image) name ≡ Some l → (l.tag ≡ Some image.place) × Contains (names_of image.rows) name }
-{
-}
+{}

@@ -83,8 +83,8 @@ IsFront-last at (Some files) (Some left) (Some held) reply clean room may spent 
   [],
   refl,
   ap (λ l. (session_end at.lines at.bytes at.state files (at.line ++ l) held).output) spent
-  ∙ ap (λ (e : End). e.output) (session_end-last at.lines at.bytes at.state at.line files held clean room may)
-  ∙ ap (λ r. held ++ r) told ∙ sym (append-nil (held ++ reply)),
+      ∙ ap (λ (e : End). e.output) (session_end-last at.lines at.bytes at.state at.line files held clean room may)
+      ∙ ap (λ r. held ++ r) told ∙ sym (append-nil (held ++ reply)),
 )
 
 IsFront-cut_last : (at : Standing) (before : Option Files) (left held now : Option (List ℕ)) → IsLine at.line → length at.line ≤ at.bytes → MayCome at.lines at.line → IsSpent left → IsCutLast at before held now → IsFront now (whole at before left held)

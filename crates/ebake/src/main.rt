@@ -1,6 +1,8 @@
 //! `ebake`: bakes a folder of authoring scenes into section files, by request lines.
 #![tactic(auto)]
 
+#[cfg(test)]
+mod cases;
 mod limits;
 mod outlet;
 mod readers;

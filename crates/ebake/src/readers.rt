@@ -10,8 +10,8 @@ ghost use Rattle.ebake.specs.Progress.{Answers, standing, IsAt, IsReady, ReadsOn
 use crate::limits::Limits;
 use crate::outlet::give_kept;
 use crate::stops::Stop;
-use eb_outside::{Shelf, Sink};
 use eb_base::Steps;
+use eb_outside::{Shelf, Sink};
 use eb_session::{LineMode, Session};
 use std::alloc::{AllocError, Global};
 use std::marker::Brand;

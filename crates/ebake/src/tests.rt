@@ -1,4 +1,9 @@
 // Runs over memory: words, folder and input on one side; status, output and section files on the other.
+use crate::cases::{
+    GREATEST, INPUTS, LIMITS, NO_OBJECTS, ONE_REPLY, OTHER_PROJECTS, OTHER_WORDS, PROJECT, PUBLISH,
+    REFUSED, REPLIES, REQUESTS, THREE_OBJECTS, TWO_LINES, TWO_REPLIES, USAGE, WORLD_REPLIES,
+    WORLD_REQUESTS,
+};
 use crate::limits::Limits;
 use crate::runs::{run, run_within};
 use eb_base::Text;
@@ -6,39 +11,6 @@ use eb_outside::{MemShelf, MemSink, MemSource};
 use std::alloc::{AllocError, Global};
 use std::test::Fail;
 use std::thread::Threads;
-
-/// One object, 1, with the value 7.
-const PROJECT: &str =
-    r#"{"assets":[],"scenes":[{"number":1,"objects":[{"components":{"Value":{"v":7}},"number":1,"parent":null,"section":null}]}]}"#;
-
-const NO_OBJECTS: &str = r#"{"scenes":[{"objects":[],"number":1}],"assets":[]}"#;
-
-const PUBLISH: &str = r#"{"do":"publish"}"#;
-
-const USAGE: &str = "usage: ebake bake|session|watch|show NAME|sample N\n";
-
-const REFUSED: &str = "refused project.json NotYet\n";
-
-/// Sets the greatest value, publishes, sets an object that isn't there, publishes again.
-const REQUESTS: &str = concat!(
-    r#"{"do":"set_field","field":"v","kind":"Value","object":1,"scene":1,"value":9223372036854775807}"#,
-    "\n",
-    r#"{"do":"publish"}"#,
-    "\n",
-    r#"{"do":"set_field","field":"v","kind":"Value","object":99,"scene":1,"value":1}"#,
-    "\n",
-    r#"{"do":"publish"}"#,
-    "\n"
-);
-
-const REPLIES: &str =
-    "ok rebaked 1 of 1\nok published 1 changed 1 reloaded 0\nE5 NoObject\nok published 2 changed 0 reloaded 0\n";
-
-/// The 42 bytes of section 1:0 with one object, 1, that has the greatest value.
-const GREATEST: [u8; 42] = [
-    0x45, 0x42, 0x53, 0x46, 1, 0, 1, 0, 1, 0, 0, 0, 1, 0, 0, 0, 0, 0, 0, 0, 1, 1, 1, 0, 0, 0, 1, 0,
-    0, 0, 0, 0, 0, 0, 0xff, 0xff, 0xff, 0xff, 0xff, 0xff, 0xff, 0x7f,
-];
 
 /// A run: what it is given, the calls that fail (by their numbers from 0), and what it must answer.
 #[derive(Clone, Copy)]
@@ -64,62 +36,6 @@ fn session<'a>(input: &'a str, output: &'a str) -> Case<'a> {
         output,
     }
 }
-
-/// Three objects, not in the order of their numbers.
-const THREE_OBJECTS: &str =
-    r#"{"assets":[],"scenes":[{"number":1,"objects":[{"components":{"Value":{"v":-5}},"number":4294967295,"parent":null,"section":null},{"components":{"Value":{"v":10}},"number":10,"parent":null,"section":null},{"components":{"Value":{"v":9}},"number":9,"parent":null,"section":null}]}]}"#;
-
-/// Loads the section before and after its publication, changes it, prints it and unloads it.
-const WORLD_REQUESTS: &str = concat!(
-    r#"{"do":"load","scene":1,"section":0}"#,
-    "\n",
-    r#"{"do":"unload","scene":1,"section":0}"#,
-    "\n",
-    r#"{"do":"publish"}"#,
-    "\n",
-    r#"{"do":"unload","scene":1,"section":0}"#,
-    "\n",
-    r#"{"do":"load","scene":1,"section":0}"#,
-    "\n",
-    r#"{"do":"load","scene":1,"section":0}"#,
-    "\n",
-    r#"{"do":"set_field","field":"v","kind":"Value","object":1,"scene":1,"value":8}"#,
-    "\n",
-    r#"{"do":"dump"}"#,
-    "\n",
-    r#"{"do":"publish"}"#,
-    "\n",
-    r#"{"do":"dump"}"#,
-    "\n",
-    r#"{"do":"publish"}"#,
-    "\n",
-    r#"{"do":"unload","scene":1,"section":0}"#,
-    "\n",
-    r#"{"do":"unload","scene":1,"section":0}"#,
-    "\n",
-    r#"{"do":"dump"}"#,
-    "\n",
-    r#"{"do":"load","scene":1,"section":0}"#,
-    "\n"
-);
-
-const WORLD_REPLIES: &str = concat!(
-    "E18 NoSection\n",
-    "E18 NoSection\n",
-    "ok published 1 changed 1 reloaded 0\n",
-    "E20 NotLoaded\n",
-    "ok loaded 1\n",
-    "E19 AlreadyLoaded\n",
-    "ok rebaked 1 of 1\n",
-    "0.1.1.0 1:0 Value(v=7)\nok dumped 1\n",
-    "ok published 2 changed 1 reloaded 1\n",
-    "0.1.1.0 1:0 Value(v=8)\nok dumped 1\n",
-    "ok published 3 changed 0 reloaded 0\n",
-    "ok unloaded 1\n",
-    "E20 NotLoaded\n",
-    "ok dumped 0\n",
-    "ok loaded 1\n"
-);
 
 /// The numbers of the calls that fail, of the shelf, the source and the sink.
 #[derive(Clone, Copy)]
@@ -241,44 +157,6 @@ fn the_program_has_the_greatest_limits(rt: HostRuntime) -> Result<(), Fail> {
     Ok(())
 }
 
-/// Words that are no form.
-const OTHER_WORDS: [&[&str]; 6] = [
-    &[],
-    &["bake"],
-    &["session", "x"],
-    &["session", "session"],
-    &["Session"],
-    &[""],
-];
-
-/// Projects that don't open, and no project.
-const OTHER_PROJECTS: [Option<&str>; 14] = [
-    None,
-    Some(""),
-    Some("{"),
-    Some("[]"),
-    Some(r#"{"assets":[],"scenes":[]}"#),
-    Some(r#"{"assets":[1],"scenes":[{"number":1,"objects":[]}]}"#),
-    Some(r#"{"assets":[],"scenes":[{"number":2,"objects":[]}]}"#),
-    Some(r#"{"assets":[],"scenes":[{"number":1,"objects":[]},{"number":1,"objects":[]}]}"#),
-    Some(r#"{"assets":[],"scenes":[{"number":1,"objects":[]}],"more":1}"#),
-    Some(
-        r#"{"assets":[],"scenes":[{"number":1,"objects":[{"components":{"Value":{"v":1.0}},"number":1,"parent":null,"section":null}]}]}"#,
-    ),
-    Some(
-        r#"{"assets":[],"scenes":[{"number":1,"objects":[{"components":{"Value":{"v":1}},"number":0,"parent":null,"section":null}]}]}"#,
-    ),
-    Some(
-        r#"{"assets":[],"scenes":[{"number":1,"objects":[{"components":{"Value":{"v":1}},"number":1,"parent":1,"section":null}]}]}"#,
-    ),
-    Some(
-        r#"{"assets":[],"scenes":[{"number":1,"objects":[{"components":{"Value":{"v":1}},"number":1,"parent":null,"section":0}]}]}"#,
-    ),
-    Some(
-        r#"{"assets":[],"scenes":[{"number":1,"objects":[{"components":{},"number":1,"parent":null,"section":null}]}]}"#,
-    ),
-];
-
 /// Whether all words that are no form give the usage line.
 fn words_end_well<T: Threads + Sync>(rt: &T, alloc: Global) -> Result<bool, AllocError> {
     for words in &OTHER_WORDS {
@@ -318,61 +196,6 @@ fn words_and_folders(rt: HostRuntime) -> Result<(), Fail> {
     Ok(())
 }
 
-/// Inputs of a session on `PROJECT`, each with its output.
-const INPUTS: [(&str, &str); 21] = [
-    ("", ""),
-    ("\n", "E2 NotYet\n"),
-    ("{\n", "E2 NotYet\n"),
-    (PUBLISH, "ok published 1 changed 1 reloaded 0\n"),
-    (
-        "{\"do\":\"publish\",\"more\":1}\n[]\n{\"do\":\"publish\"} \n",
-        "E2 NotYet\nE2 NotYet\nok published 1 changed 1 reloaded 0\n",
-    ),
-    (
-        r#"{"do":"set_field","field":"v","kind":"Value","object":1,"scene":2,"value":1}"#,
-        "E2 NotYet\n",
-    ),
-    (
-        r#"{"do":"set_field","field":"w","kind":"Value","object":1,"scene":1,"value":1}"#,
-        "E2 NotYet\n",
-    ),
-    (
-        r#"{"do":"set_field","field":"v","kind":"Other","object":1,"scene":1,"value":1}"#,
-        "E2 NotYet\n",
-    ),
-    (
-        r#"{"do":"set_field","field":"v","kind":"Value","object":0,"scene":1,"value":1}"#,
-        "E2 NotYet\n",
-    ),
-    (
-        r#"{"do":"set_field","field":"v","kind":"Value","object":4294967296,"scene":1,"value":1}"#,
-        "E2 NotYet\n",
-    ),
-    (
-        r#"{"do":"set_field","field":"v","kind":"Value","object":1,"scene":1,"value":1.5}"#,
-        "E2 NotYet\n",
-    ),
-    (
-        r#"{"do":"set_field","field":"v","kind":"Value","object":1,"scene":1,"value":9223372036854775808}"#,
-        "E2 NotYet\n",
-    ),
-    (
-        r#"{"do":"set_field","field":"v","kind":"Value","object":4294967295,"scene":1,"value":-9223372036854775808}"#,
-        "E5 NoObject\n",
-    ),
-    (
-        r#"{"value":-1,"scene":1,"object":1,"kind":"Value","field":"v","do":"set_field"}"#,
-        "ok rebaked 1 of 1\n",
-    ),
-    (WORLD_REQUESTS, WORLD_REPLIES),
-    (r#"{"do":"dump"}"#, "ok dumped 0\n"),
-    (r#"{"do":"dump","scene":1}"#, "E2 NotYet\n"),
-    (r#"{"do":"load","scene":1}"#, "E2 NotYet\n"),
-    (r#"{"do":"load","scene":2,"section":0}"#, "E2 NotYet\n"),
-    (r#"{"do":"load","scene":1,"section":1}"#, "E2 NotYet\n"),
-    (r#"{"do":"unload","scene":1,"section":"0"}"#, "E2 NotYet\n"),
-];
-
 /// Plays the inputs, and answers the first whose output is another.
 fn other_output<T: Threads + Sync>(
     rt: &T,
@@ -405,8 +228,14 @@ fn lines(rt: HostRuntime) -> Result<(), Fail> {
     let alloc = rt.alloc();
     assert_eq!(rt; other_output(&rt, alloc)?, None);
     let published = "ok published 1 changed 1 reloaded 0\n";
-    assert!(rt; padded_ends_well(&rt, alloc, 65_520, published)?, "65,536 bytes");
-    assert!(rt; padded_ends_well(&rt, alloc, 65_521, "E2 NotYet\n")?, "65,537 bytes");
+    assert!(rt;
+        padded_ends_well(&rt, alloc, 65_520, published)?,
+        "65,536 bytes"
+    );
+    assert!(rt;
+        padded_ends_well(&rt, alloc, 65_521, "E2 NotYet\n")?,
+        "65,537 bytes"
+    );
     let empty = Case {
         project: Some(NO_OBJECTS),
         ..session(
@@ -430,49 +259,6 @@ fn entities_by_name(rt: HostRuntime) -> Result<(), Fail> {
     assert!(rt; ends_well(&rt, rt.alloc(), &case)?);
     Ok(())
 }
-
-const TWO_LINES: &str = "{\"do\":\"publish\"}\n{\"do\":\"publish\"}\n";
-
-const ONE_REPLY: &str = "ok published 1 changed 1 reloaded 0\n";
-
-const TWO_REPLIES: &str =
-    "ok published 1 changed 1 reloaded 0\nok published 2 changed 0 reloaded 0\n";
-
-/// Limits on lines and bytes, an input, and the status and output of its session.
-const LIMITS: [(u32, u32, &str, u8, &str); 14] = [
-    (
-        2,
-        100,
-        "{\"do\":\"publish\"}\n{\"do\":\"publish\"}\n{\"do\":\"publish\"}\n",
-        5,
-        TWO_REPLIES,
-    ),
-    (2, 100, TWO_LINES, 0, TWO_REPLIES),
-    (
-        2,
-        100,
-        "{\"do\":\"publish\"}\n{\"do\":\"publish\"}",
-        0,
-        TWO_REPLIES,
-    ),
-    (0, 100, "", 0, ""),
-    (0, 100, "\n", 5, ""),
-    (9, 34, TWO_LINES, 0, TWO_REPLIES),
-    (9, 35, TWO_LINES, 0, TWO_REPLIES),
-    (9, 33, TWO_LINES, 5, ONE_REPLY),
-    (9, 17, TWO_LINES, 5, ONE_REPLY),
-    (9, 16, TWO_LINES, 5, ""),
-    (9, 0, "", 0, ""),
-    (9, 0, "\n", 5, ""),
-    (1, 17, TWO_LINES, 5, ONE_REPLY),
-    (
-        2,
-        100,
-        "{\"do\":\"dump\"}\n{\"do\":\"dump\"}\n{\"do\":\"dump\"}\n",
-        5,
-        "ok dumped 0\nok dumped 0\n",
-    ),
-];
 
 /// Plays the sessions under limits, and answers the first that ends otherwise: its limits.
 fn other_limits<T: Threads + Sync>(

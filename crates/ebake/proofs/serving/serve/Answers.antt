@@ -31,9 +31,11 @@ returns-in_err-count-clause-causes g c failed =
     let t = c.pieces.invariant.told in
     let left = g.I.Source.left c.take_piece.new.source in
     let same : left ≡ g.I.Source.left c.pieces.source = TakesKnown-err Fault (g.I.Source.left c.pieces.source) left c.in_err-count.field-0.0 c.take_piece.new.buffer c.in_err-count.ensures.bytes in
-    inr (inl (Rose-since (g.I.Source.faults c.args.source.now) (g.I.Source.faults c.pieces.source) (g.I.Source.faults c.take_piece.new.source) c.pieces.invariant.source c.in_err-count.ensures.cause.failed,
-    HasAnswered-on (standing c.args.reader.now []) c.pieces.reader t.0 (g.H.Shelf.files c.args.shelf.now) (g.H.Shelf.files c.pieces.shelf) (g.I.Source.left c.args.source.now) left
-    (g.O.Sink.put c.args.sink.now) (g.O.Sink.put c.pieces.sink) refl c.requires.opens (t.1.0 ∙ ap (behind_taken t.0) (sym same)) t.1.1))
+    inr (inl (
+      Rose-since (g.I.Source.faults c.args.source.now) (g.I.Source.faults c.pieces.source) (g.I.Source.faults c.take_piece.new.source) c.pieces.invariant.source c.in_err-count.ensures.cause.failed,
+      HasAnswered-on (standing c.args.reader.now []) c.pieces.reader t.0 (g.H.Shelf.files c.args.shelf.now) (g.H.Shelf.files c.pieces.shelf) (g.I.Source.left c.args.source.now) left
+          (g.O.Sink.put c.args.sink.now) (g.O.Sink.put c.pieces.sink) refl c.requires.opens (t.1.0 ∙ ap (behind_taken t.0) (sym same)) t.1.1,
+    ))
 
 pub returns-then-count-eq0-clause-told : goal.returns-then-count-eq0-clause-told
 returns-then-count-eq0-clause-told g c =
@@ -49,13 +51,16 @@ returns-then-count-eq0-clause-causes g c failed =
     let left = g.I.Source.left c.take_piece.new.source in
     let spent = spent_at_end Fault (g.I.Source.left c.pieces.source) left c.take_piece.new.buffer (rw c.if-count-eq0.true at c.in_ok-count.ensures.bytes) in
     elim (c.close.ensures.publishes failed) [
-      inl rose ↦ inl (Rose-since (g.O.Sink.faults c.args.sink.now) (g.O.Sink.faults c.pieces.sink) (g.O.Sink.faults c.close.new.sink) c.pieces.invariant.sink rose)
-    | inr publishes ↦ elim (c.close.ensures.cause failed) [
-          inl rose ↦ inr (inr (Rose-since (g.H.Shelf.faults c.args.shelf.now) (g.H.Shelf.faults c.pieces.shelf) (g.H.Shelf.faults c.close.new.shelf) c.pieces.invariant.shelf rose, rw publishes.2
-            (IsAtPublication-last (standing c.args.reader.now []) c.pieces.reader t.0 (g.H.Shelf.files c.args.shelf.now) (g.H.Shelf.files c.pieces.shelf) (g.I.Source.left c.args.source.now) left (g.O.Sink.put c.args.sink.now) (g.O.Sink.put c.pieces.sink)
-            t.1.1 refl c.requires.opens (t.1.0 ∙ ap (behind_taken t.0) (sym spent.0)) spent.1 c.pieces.invariant.ready publishes.0 publishes.1)))
+      | inl rose ↦ inl (Rose-since (g.O.Sink.faults c.args.sink.now) (g.O.Sink.faults c.pieces.sink) (g.O.Sink.faults c.close.new.sink) c.pieces.invariant.sink rose)
+      | inr publishes ↦ elim (c.close.ensures.cause failed) [
+        | inl rose ↦ inr (inr (
+          Rose-since (g.H.Shelf.faults c.args.shelf.now) (g.H.Shelf.faults c.pieces.shelf) (g.H.Shelf.faults c.close.new.shelf) c.pieces.invariant.shelf rose,
+          rw publishes.2
+              (IsAtPublication-last (standing c.args.reader.now []) c.pieces.reader t.0 (g.H.Shelf.files c.args.shelf.now) (g.H.Shelf.files c.pieces.shelf) (g.I.Source.left c.args.source.now) left (g.O.Sink.put c.args.sink.now) (g.O.Sink.put c.pieces.sink)
+              t.1.1 refl c.requires.opens (t.1.0 ∙ ap (behind_taken t.0) (sym spent.0)) spent.1 c.pieces.invariant.ready publishes.0 publishes.1),
+        ))
         | inr rose ↦ inl (Rose-since (g.O.Sink.faults c.args.sink.now) (g.O.Sink.faults c.pieces.sink) (g.O.Sink.faults c.close.new.sink) c.pieces.invariant.sink rose)
-        ]
+      ]
     ]
 
 pub returns-then-room-eq0-clause-told : goal.returns-then-room-eq0-clause-told
@@ -80,9 +85,14 @@ pieces-preserved g c =
     record {
       ready = c.in_ok-feed_piece.ensures.ready;
       none = c.in_ok-feed_piece.ensures.none;
-      told = (t.0 ++ take count buffer, (taken_both Fault t.0 (g.I.Source.left c.args.source.now) (g.I.Source.left c.pieces.source) left count buffer t.1.0 c.in_ok-count.ensures.bytes,
-        ReadsOn-then (standing c.args.reader.now []) c.pieces.reader c.feed_piece.new.self t.0 (take count buffer) (g.H.Shelf.files c.args.shelf.now) (g.H.Shelf.files c.pieces.shelf) (g.H.Shelf.files c.feed_piece.new.shelf)
-        (g.O.Sink.put c.args.sink.now) (g.O.Sink.put c.pieces.sink) (g.O.Sink.put c.feed_piece.new.sink) reads (c.in_ok-feed_piece.ensures.told reads.line reads.is_at)));
+      told = (
+        t.0 ++ take count buffer,
+        (
+          taken_both Fault t.0 (g.I.Source.left c.args.source.now) (g.I.Source.left c.pieces.source) left count buffer t.1.0 c.in_ok-count.ensures.bytes,
+          ReadsOn-then (standing c.args.reader.now []) c.pieces.reader c.feed_piece.new.self t.0 (take count buffer) (g.H.Shelf.files c.args.shelf.now) (g.H.Shelf.files c.pieces.shelf) (g.H.Shelf.files c.feed_piece.new.shelf)
+              (g.O.Sink.put c.args.sink.now) (g.O.Sink.put c.pieces.sink) (g.O.Sink.put c.feed_piece.new.sink) reads (c.in_ok-feed_piece.ensures.told reads.line reads.is_at),
+        ),
+      );
       shelf = omega (arith, c.in_ok-feed_piece.ensures.shelf, c.pieces.invariant.shelf);
       source = omega (arith, c.in_ok-count.ensures.cause, c.pieces.invariant.source);
       sink = omega (arith, c.in_ok-feed_piece.ensures.sink, c.pieces.invariant.sink);
@@ -122,12 +132,14 @@ returns-in_err-feed_piece-clause-causes g c failed =
     let outside = rw (p.1, p.2) at failed in
     let sink_since = Rose-since (g.O.Sink.faults c.args.sink.now) (g.O.Sink.faults c.pieces.sink) (g.O.Sink.faults c.feed_piece.new.sink) c.pieces.invariant.sink in
     elim (c.in_err-feed_piece.ensures.publishes reads.line reads.is_at outside) [
-      inl rose ↦ inl (sink_since rose)
-    | inr meets ↦ elim (c.in_err-feed_piece.ensures.cause outside) [
-          inl rose ↦ inr (inr (Rose-since (g.H.Shelf.faults c.args.shelf.now) (g.H.Shelf.faults c.pieces.shelf) (g.H.Shelf.faults c.feed_piece.new.shelf) c.pieces.invariant.shelf rose,
-            IsAtPublication-meets start taken before (g.I.Source.left c.args.source.now) left held now refl c.requires.opens
-            (taken_both Fault t.0 (g.I.Source.left c.args.source.now) (g.I.Source.left c.pieces.source) left c.in_ok-count.count c.take_piece.new.buffer t.1.0 c.in_ok-count.ensures.bytes)
-            (MeetsPublish-after start (standing c.pieces.reader reads.line) t.0 piece [] taken reads.reply before (g.H.Shelf.files c.pieces.shelf) held (g.O.Sink.put c.pieces.sink) now reads.reads (sym (ap (λ u. t.0 ++ u) (append-nil piece))) reads.replies meets)))
+      | inl rose ↦ inl (sink_since rose)
+      | inr meets ↦ elim (c.in_err-feed_piece.ensures.cause outside) [
+        | inl rose ↦ inr (inr (
+          Rose-since (g.H.Shelf.faults c.args.shelf.now) (g.H.Shelf.faults c.pieces.shelf) (g.H.Shelf.faults c.feed_piece.new.shelf) c.pieces.invariant.shelf rose,
+          IsAtPublication-meets start taken before (g.I.Source.left c.args.source.now) left held now refl c.requires.opens
+              (taken_both Fault t.0 (g.I.Source.left c.args.source.now) (g.I.Source.left c.pieces.source) left c.in_ok-count.count c.take_piece.new.buffer t.1.0 c.in_ok-count.ensures.bytes)
+              (MeetsPublish-after start (standing c.pieces.reader reads.line) t.0 piece [] taken reads.reply before (g.H.Shelf.files c.pieces.shelf) held (g.O.Sink.put c.pieces.sink) now reads.reads (sym (ap (λ u. t.0 ++ u) (append-nil piece))) reads.replies meets),
+        ))
         | inr rose ↦ inl (sink_since rose)
-        ]
+      ]
     ]

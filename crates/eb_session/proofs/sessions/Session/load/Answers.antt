@@ -16,5 +16,5 @@ invariant_of-self-2 c = (
   c.bring_in.ensures.types ∙ c.self.invariant.1,
   c.self.invariant.2,
   IsKept-loaded _ c.self.inside.world.live c.in-Some.published.image (ap (option_map (λ (p : Published). p.image)) c.in-Some.is) (published_section c.self.inside.published c.in-Some.published c.in-Some.is c.self.invariant.3.published)
-  c.in_ok-bring_in.ensures.is_loaded (nothing_lives _ c.self.invariant.3 c.if-self.false) c.in_ok-bring_in.ensures.live,
+      c.in_ok-bring_in.ensures.is_loaded (nothing_lives _ c.self.invariant.3 c.if-self.false) c.in_ok-bring_in.ensures.live,
 )

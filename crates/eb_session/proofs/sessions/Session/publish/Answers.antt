@@ -11,11 +11,10 @@ invariant_of-self-in_err-take_over g c =
 
 pub invariant_of-self-2 : goal.invariant_of-self-2
 invariant_of-self-2 g c =
-    let published = c.in_ok-take_over.ensures.published in
-    (
+    let published = c.in_ok-take_over.ensures.published in (
       c.self.invariant.0,
       c.take_over.ensures.types ∙ c.self.invariant.1,
       rw published c.in_ok-next.ensures.bytes,
       IsKept-refreshed _ c.self.inside.is_loaded c.self.inside.world.live c.in_ok-next.next.image (ap (option_map (λ (p : Published). p.image)) published) c.in_ok-next.ensures.section refl c.self.invariant.3.tags
-      (nothing_lives _ c.self.invariant.3) c.in_ok-take_over.ensures.live,
+          (nothing_lives _ c.self.invariant.3) c.in_ok-take_over.ensures.live,
     )

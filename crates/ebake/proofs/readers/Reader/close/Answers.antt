@@ -16,6 +16,6 @@ returns-clause-told g c line is_at =
     let all = appended put c.finish-finished.new.kept.items in
     let finishes : Finishes c.finish-finished.result start before after put all = subst (λ h. Finishes c.finish-finished.result start before after h all) base (c.finish-finished.ensures.told line put is_at) in
     elim c.give_then.ensures.given [
-      inl same ↦ rw (same.0, same.1) finishes
-    | inr cut ↦ Finishes-given (Unit {0}) (Unit {0}) c.finish-finished.result c.give_then.result start before after put all now finishes cut.0 cut.1.0
+      | inl same ↦ rw (same.0, same.1) finishes
+      | inr cut ↦ Finishes-given (Unit {0}) (Unit {0}) c.finish-finished.result c.give_then.result start before after put all now finishes cut.0 cut.1.0
     ]

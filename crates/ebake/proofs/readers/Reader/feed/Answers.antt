@@ -25,12 +25,16 @@ loop-byte-preserved g c =
       ready = c.in_ok-feed_byte.ensures.ready;
       room = omega (arith, c.in_ok-feed_byte.ensures.room, c.loop-byte.invariant.room);
       told = λ line is_at. (
-        let t = c.loop-byte.invariant.told line is_at in
-        let reads = t.1.1 in
-        let then = c.in_ok-feed_byte.ensures.told reads.line reads.is_at in
-        (t.0 ++ get_or piece at 0 ∷ [], (past_byte t.0 piece at within t.1.0,
-        ReadsOn-then (standing c.args.self.now line) c.loop-byte.self c.feed_byte.new.self t.0 (get_or piece at 0 ∷ []) (g.H.Shelf.files c.args.shelf.now) (g.H.Shelf.files c.loop-byte.shelf) (g.H.Shelf.files c.feed_byte.new.shelf)
-        (appended (g.O.Sink.put c.args.sink.now) c.args.kept.now.items) (appended (g.O.Sink.put c.loop-byte.sink) c.loop-byte.kept.items) (appended (g.O.Sink.put c.feed_byte.new.sink) c.feed_byte.new.kept.items) reads then)));
+          let t = c.loop-byte.invariant.told line is_at in
+          let reads = t.1.1 in
+          let then = c.in_ok-feed_byte.ensures.told reads.line reads.is_at in (
+            t.0 ++ get_or piece at 0 ∷ [],
+            (
+              past_byte t.0 piece at within t.1.0,
+              ReadsOn-then (standing c.args.self.now line) c.loop-byte.self c.feed_byte.new.self t.0 (get_or piece at 0 ∷ []) (g.H.Shelf.files c.args.shelf.now) (g.H.Shelf.files c.loop-byte.shelf) (g.H.Shelf.files c.feed_byte.new.shelf)
+                  (appended (g.O.Sink.put c.args.sink.now) c.args.kept.now.items) (appended (g.O.Sink.put c.loop-byte.sink) c.loop-byte.kept.items) (appended (g.O.Sink.put c.feed_byte.new.sink) c.feed_byte.new.kept.items) reads then,
+            ),
+          ));
       shelf = omega (arith, c.in_ok-feed_byte.ensures.shelf, c.loop-byte.invariant.shelf);
       sink = omega (arith, c.in_ok-feed_byte.ensures.sink, c.loop-byte.invariant.sink);
     }
@@ -56,10 +60,10 @@ returns-in_err-feed_byte-clause-publishes g c line is_at failed =
     let at = c.loop-byte.byte-index in
     let within : at < length piece = omega arith in
     elim (c.in_err-feed_byte.ensures.publishes reads.line reads.is_at (rw (p.1, p.2) at failed)) [
-      inl rose ↦ inl (Rose-since (g.O.Sink.faults c.args.sink.now) (g.O.Sink.faults c.loop-byte.sink) (g.O.Sink.faults c.feed_byte.new.sink) c.loop-byte.invariant.sink rose)
-    | inr meets ↦ inr (MeetsPublish-after (standing c.args.self.now line) (standing c.loop-byte.self reads.line) t.0 (get_or piece at 0 ∷ []) (drop (at + 1) piece) piece reads.reply
-        (g.H.Shelf.files c.args.shelf.now) (g.H.Shelf.files c.loop-byte.shelf) (appended (g.O.Sink.put c.args.sink.now) c.args.kept.now.items) (appended (g.O.Sink.put c.loop-byte.sink) c.loop-byte.kept.items)
-        (appended (g.O.Sink.put c.feed_byte.new.sink) c.feed_byte.new.kept.items) reads.reads (next_byte t.0 piece at within t.1.0) reads.replies meets)
+      | inl rose ↦ inl (Rose-since (g.O.Sink.faults c.args.sink.now) (g.O.Sink.faults c.loop-byte.sink) (g.O.Sink.faults c.feed_byte.new.sink) c.loop-byte.invariant.sink rose)
+      | inr meets ↦ inr (MeetsPublish-after (standing c.args.self.now line) (standing c.loop-byte.self reads.line) t.0 (get_or piece at 0 ∷ []) (drop (at + 1) piece) piece reads.reply
+          (g.H.Shelf.files c.args.shelf.now) (g.H.Shelf.files c.loop-byte.shelf) (appended (g.O.Sink.put c.args.sink.now) c.args.kept.now.items) (appended (g.O.Sink.put c.loop-byte.sink) c.loop-byte.kept.items)
+          (appended (g.O.Sink.put c.feed_byte.new.sink) c.feed_byte.new.kept.items) reads.reads (next_byte t.0 piece at within t.1.0) reads.replies meets)
     ]
 
 pub returns-clause-told : goal.returns-clause-told

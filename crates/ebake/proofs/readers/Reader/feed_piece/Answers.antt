@@ -18,8 +18,8 @@ returns-clause-told g c line is_at =
     let all = appended (g.O.Sink.put c.feed-fed.new.sink) c.feed-fed.new.kept.items in
     let goes : GoesOn c.feed-fed.result start reader piece before after put all = subst (λ h. GoesOn c.feed-fed.result start reader piece before after h all) base (c.feed-fed.ensures.told line is_at) in
     elim c.give_then.ensures.given [
-      inl same ↦ rw (same.0, same.1) goes
-    | inr cut ↦ GoesOn-cut (Unit {0}) c.give_then.result start reader piece before after put now cut.0 (IsCut-given (Unit {0}) c.feed-fed.result start reader piece before after put all now goes cut.1.0)
+      | inl same ↦ rw (same.0, same.1) goes
+      | inr cut ↦ GoesOn-cut (Unit {0}) c.give_then.result start reader piece before after put now cut.0 (IsCut-given (Unit {0}) c.feed-fed.result start reader piece before after put all now goes cut.1.0)
     ]
 
 pub returns-clause-publishes : goal.returns-clause-publishes
@@ -35,9 +35,9 @@ returns-clause-publishes g c line is_at failed =
     let fed = g.O.Sink.faults c.feed-fed.new.sink in
     let last = g.O.Sink.faults c.give_then.new.sink in
     elim c.give_then.ensures.given [
-      inl same ↦ elim (c.feed-fed.ensures.publishes line is_at (rw same.0 at failed)) [
-          inl rose ↦ inl (Rose-until first fed last rose c.give_then.ensures.sink)
+      | inl same ↦ elim (c.feed-fed.ensures.publishes line is_at (rw same.0 at failed)) [
+        | inl rose ↦ inl (Rose-until first fed last rose c.give_then.ensures.sink)
         | inr meets ↦ inr (rw same.1 (subst (λ h. MeetsPublish start piece before h all) base meets))
-        ]
-    | inr cut ↦ inl (Rose-since first fed last c.feed-fed.ensures.sink (cut.1.1 failed))
+      ]
+      | inr cut ↦ inl (Rose-since first fed last c.feed-fed.ensures.sink (cut.1.1 failed))
     ]
