@@ -19,3 +19,4 @@ mod SpelledTokens
 mod Printed
 mod PrintedTexts
 mod ReadsBack
+mod Reserved

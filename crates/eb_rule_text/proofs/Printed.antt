@@ -61,55 +61,55 @@ finds_printed {context = context} {d = d} {i = i} {j = j} (a_find {k = k} {x = x
 
 -- ---- expressions
 
-text_int : (n : ℤ) → expr_text (e.Int n) ≡ token_text (l.Int n)
+pub text_int : (n : ℤ) → expr_text (e.Int n) ≡ token_text (l.Int n)
 unfolding expr_text
 text_int n = search (rules, the_lemmas)
 
-text_fix : (n : ℤ) → expr_text (e.Fix n) ≡ token_text (l.Fix n)
+pub text_fix : (n : ℤ) → expr_text (e.Fix n) ≡ token_text (l.Fix n)
 unfolding expr_text
 text_fix n = search (rules, the_lemmas)
 
-text_true : expr_text e.True ≡ mark_out m.True
+pub text_true : expr_text e.True ≡ mark_out m.True
 unfolding expr_text
 text_true = search (rules, the_lemmas)
 
-text_false : expr_text e.False ≡ mark_out m.False
+pub text_false : expr_text e.False ≡ mark_out m.False
 unfolding expr_text
 text_false = search (rules, the_lemmas)
 
-text_null : expr_text e.Null ≡ mark_out m.Null
+pub text_null : expr_text e.Null ≡ mark_out m.Null
 unfolding expr_text
 text_null = search (rules, the_lemmas)
 
-text_name : (x : Text) → expr_text (e.Name x) ≡ name_out x
+pub text_name : (x : Text) → expr_text (e.Name x) ≡ name_out x
 unfolding expr_text
 text_name x = search (rules, the_lemmas)
 
-text_paren : (x : Expr) → expr_text (e.Paren x) ≡ mark_out m.LParen ++ (expr_text x ++ mark_out m.RParen)
+pub text_paren : (x : Expr) → expr_text (e.Paren x) ≡ mark_out m.LParen ++ (expr_text x ++ mark_out m.RParen)
 unfolding expr_text
 text_paren x = search (rules, the_lemmas)
 
-text_to_fix : (x : Expr) → expr_text (e.ToFix x) ≡ mark_out m.Fix ++ (mark_out m.LParen ++ (expr_text x ++ mark_out m.RParen))
+pub text_to_fix : (x : Expr) → expr_text (e.ToFix x) ≡ mark_out m.Fix ++ (mark_out m.LParen ++ (expr_text x ++ mark_out m.RParen))
 unfolding expr_text
 text_to_fix x = search (rules, the_lemmas)
 
-text_to_int : (x : Expr) → expr_text (e.ToInt x) ≡ mark_out m.Int ++ (mark_out m.LParen ++ (expr_text x ++ mark_out m.RParen))
+pub text_to_int : (x : Expr) → expr_text (e.ToInt x) ≡ mark_out m.Int ++ (mark_out m.LParen ++ (expr_text x ++ mark_out m.RParen))
 unfolding expr_text
 text_to_int x = search (rules, the_lemmas)
 
-text_read : (x : Read) → expr_text (e.Read x) ≡ read_text x
+pub text_read : (x : Read) → expr_text (e.Read x) ≡ read_text x
 unfolding expr_text
 text_read x = search (rules, the_lemmas)
 
-text_find : (found : List Find) (x : Expr) → expr_text (e.Find found x) ≡ finds_text found ++ expr_text x
+pub text_find : (found : List Find) (x : Expr) → expr_text (e.Find found x) ≡ finds_text found ++ expr_text x
 unfolding expr_text
 text_find found x = search (rules, the_lemmas)
 
-text_negate : (x : Expr) → expr_text (e.Negate x) ≡ mark_out m.Minus ++ expr_text x
+pub text_negate : (x : Expr) → expr_text (e.Negate x) ≡ mark_out m.Minus ++ expr_text x
 unfolding expr_text
 text_negate x = search (rules, the_lemmas)
 
-text_not : (x : Expr) → expr_text (e.Not x) ≡ mark_out m.Not ++ expr_text x
+pub text_not : (x : Expr) → expr_text (e.Not x) ≡ mark_out m.Not ++ expr_text x
 unfolding expr_text
 text_not x = search (rules, the_lemmas)
 
@@ -221,3 +221,10 @@ mutual
 
 pub expr_printed : {context : Context} {d : ℕ} {i j : Input} {x : Expr} → IsExpr context d i x j → text_of i ≡ expr_text x ++ text_of j
 expr_printed is = level_printed is
+
+-- two texts put one behind the other
+pub put_both : (a b c x y p : Text) → b ≡ a ++ x → c ≡ b ++ y → p ≡ x ++ y → c ≡ a ++ p
+put_both a b c x y p first then_ whole = then_ ∙ ap (λ t. t ++ y) first ∙ append_assoc a x y ∙ ap (λ t. a ++ t) (sym whole)
+
+pub put_three : (a b c d x y z p : Text) → b ≡ a ++ x → c ≡ b ++ y → d ≡ c ++ z → p ≡ (x ++ y) ++ z → d ≡ a ++ p
+put_three a b c d x y z p first second third whole = third ∙ ap (λ t. t ++ z) (put_both a b c x y (x ++ y) first second refl) ∙ append_assoc a (x ++ y) z ∙ ap (λ t. a ++ t) (sym whole)

@@ -20,7 +20,7 @@ use Rattle.eb_rule_text.specs.Tokens.{Text}
 use Rattle.eb_rule_text.specs.Input.{Input}
 use Rattle.eb_rule_text.specs.Blocks.{init_of, add_of, baker_of, system_of, job_of}
 use Rattle.eb_rule_text.specs.Spelling.{token_text, text_of}
-use Rattle.eb_rule_text.specs.Printing.{mark_out, name_out, expr_text, some_inits, inits_text, add_text, adds_text, joined, braced, stmt_text, stmts_text, names_text, list_text, query_text, baker_text, system_text, rule_text, rule_list_text, rules_text, target_text, command_text, commands_text, job_text}
+use Rattle.eb_rule_text.specs.Printing.{mark_out, name_out, expr_text, some_inits, inits_text, add_text, adds_text, joined, braced, if_text, stmt_text, stmts_text, names_text, list_text, query_text, baker_text, system_text, rule_text, rule_list_text, rules_text, target_text, command_text, commands_text, job_text}
 use Rattle.eb_rule_text.specs.Grammar.{EndInits, last_init, one_init, AreInits, no_init, some_init, IsAdd, added, EndAdds, no_add, one_add, IsStmt, a_let, an_add, an_extra, an_if, an_else, EndStmts, no_stmt, one_stmt, AreNames, no_name, one_name, IsList, unwritten, written, IsQuery, queried, IsRule, a_baker, a_system, AreRules, no_rule, one_rule, IsRules, IsTarget, at_this, at_name, at_link, IsCommand, created, destroyed, removed, added_to, set_to, EndCommands, no_command, one_command, IsJob, a_job}
 use Rattle.eb_rule_text.proofs.Printed.{expr_printed}
 
@@ -88,29 +88,43 @@ end_adds_printed {j = j} (one_add {x = x} {more = more} is are) =
 
 -- ---- statements
 
-text_let : (x : Text) (value : Expr) → stmt_text (s.Let x value) ≡ mark_out m.Let ++ (name_out x ++ (mark_out m.Assign ++ (expr_text value ++ mark_out m.Semicolon)))
+pub text_let : (x : Text) (value : Expr) → stmt_text (s.Let x value) ≡ mark_out m.Let ++ (name_out x ++ (mark_out m.Assign ++ (expr_text value ++ mark_out m.Semicolon)))
 unfolding stmt_text
 text_let x value = search (rules, the_lemmas)
 
-text_add : (x : Add) → stmt_text (s.Add x) ≡ add_text x
+pub text_add : (x : Add) → stmt_text (s.Add x) ≡ add_text x
 unfolding stmt_text
 text_add x = search (rules, the_lemmas)
 
-text_extra : (x : Text) (body : List Add) → stmt_text (s.Extra x body) ≡ mark_out m.Extra ++ (name_out x ++ braced (adds_text body))
+pub text_extra : (x : Text) (body : List Add) → stmt_text (s.Extra x body) ≡ mark_out m.Extra ++ (name_out x ++ braced (adds_text body))
 unfolding stmt_text
 text_extra x body = search (rules, the_lemmas)
 
-text_if : (test : Expr) (body : List Stmt) → stmt_text (s.If test body None) ≡ mark_out m.If ++ (expr_text test ++ (braced (joined (map stmt_text body)) ++ []))
+text_if_step : (test : Expr) (body : List Stmt) → stmt_text (s.If test body None) ≡ mark_out m.If ++ (expr_text test ++ (braced (joined (map stmt_text body)) ++ []))
 unfolding stmt_text
-text_if test body = search (rules, the_lemmas)
+text_if_step test body = search (rules, the_lemmas)
 
-text_else : (test : Expr) (body other : List Stmt) → stmt_text (s.If test body (Some other)) ≡ mark_out m.If ++ (expr_text test ++ (braced (joined (map stmt_text body)) ++ (mark_out m.Else ++ braced (joined (map stmt_text other)))))
+text_else_step : (test : Expr) (body other : List Stmt) → stmt_text (s.If test body (Some other)) ≡ mark_out m.If ++ (expr_text test ++ (braced (joined (map stmt_text body)) ++ (mark_out m.Else ++ braced (joined (map stmt_text other)))))
 unfolding stmt_text
-text_else test body other = search (rules, the_lemmas)
+text_else_step test body other = search (rules, the_lemmas)
 
 pub stmts_joined : (xs : List Stmt) → joined (map stmt_text xs) ≡ stmts_text xs
 stmts_joined [] = refl
 stmts_joined (x ∷ xs) = ap (λ t. stmt_text x ++ t) (stmts_joined xs)
+
+pub text_if : (test : Expr) (body : List Stmt) → stmt_text (s.If test body None) ≡ if_text test ++ braced (stmts_text body)
+text_if test body =
+    text_if_step test body ∙ ap (λ t. mark_out m.If ++ (expr_text test ++ (braced t ++ []))) (stmts_joined body)
+    ∙ ap (λ t. mark_out m.If ++ (expr_text test ++ t)) (append-nil (braced (stmts_text body))) ∙ two (mark_out m.If) (expr_text test) (braced (stmts_text body))
+
+both_blocks : (a b c d : Text) → a ++ (b ++ (c ++ d)) ≡ ((a ++ b) ++ c) ++ d
+both_blocks a b c d = simp append_assoc refl
+
+pub text_else : (test : Expr) (body other : List Stmt) → stmt_text (s.If test body (Some other)) ≡ (if_text test ++ braced (stmts_text body)) ++ (mark_out m.Else ++ braced (stmts_text other))
+text_else test body other =
+    text_else_step test body other ∙ ap (λ t. mark_out m.If ++ (expr_text test ++ (braced t ++ (mark_out m.Else ++ braced (joined (map stmt_text other)))))) (stmts_joined body)
+    ∙ ap (λ t. mark_out m.If ++ (expr_text test ++ (braced (stmts_text body) ++ (mark_out m.Else ++ braced t)))) (stmts_joined other)
+    ∙ both_blocks (mark_out m.If) (expr_text test) (braced (stmts_text body)) (mark_out m.Else ++ braced (stmts_text other))
 
 let_joined : (x : Text) (value : Expr) (j : Text) → mark_out m.Let ++ (name_out x ++ (mark_out m.Assign ++ (expr_text value ++ (mark_out m.Semicolon ++ j)))) ≡ stmt_text (s.Let x value) ++ j
 let_joined x value j = rw (text_let x value) (five (mark_out m.Let) (name_out x) (mark_out m.Assign) (expr_text value) (mark_out m.Semicolon) j)
@@ -119,12 +133,12 @@ extra_joined : (x : Text) (body : List Add) (j : Text) → mark_out m.Extra ++ (
 extra_joined x body j = rw (text_extra x body) (four (mark_out m.Extra) (name_out x) (mark_out m.LBrace) (adds_text body ++ mark_out m.RBrace) j)
 
 if_joined : (test : Expr) (body : List Stmt) (j : Text) → mark_out m.If ++ (expr_text test ++ (mark_out m.LBrace ++ ((stmts_text body ++ mark_out m.RBrace) ++ j))) ≡ stmt_text (s.If test body None) ++ j
-if_joined test body j = rw (text_if test body, stmts_joined body) (without_else (mark_out m.If) (expr_text test) (mark_out m.LBrace) (stmts_text body ++ mark_out m.RBrace) j)
+if_joined test body j = rw (text_if_step test body, stmts_joined body) (without_else (mark_out m.If) (expr_text test) (mark_out m.LBrace) (stmts_text body ++ mark_out m.RBrace) j)
 
 else_joined : (test : Expr) (body other : List Stmt) (j : Text)
     → mark_out m.If ++ (expr_text test ++ (mark_out m.LBrace ++ ((stmts_text body ++ mark_out m.RBrace) ++ (mark_out m.Else ++ (mark_out m.LBrace ++ ((stmts_text other ++ mark_out m.RBrace) ++ j)))))) ≡ stmt_text (s.If test body (Some other)) ++ j
 else_joined test body other j =
-    rw (text_else test body other, stmts_joined body, stmts_joined other)
+    rw (text_else_step test body other, stmts_joined body, stmts_joined other)
     (with_else (mark_out m.If) (expr_text test) (mark_out m.LBrace) (stmts_text body ++ mark_out m.RBrace) (mark_out m.Else) (mark_out m.LBrace) (stmts_text other ++ mark_out m.RBrace) j)
 
 mutual

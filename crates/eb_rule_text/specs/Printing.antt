@@ -139,6 +139,18 @@ abbrev pub stmts_text : List Stmt → Text
 stmts_text [] = []
 stmts_text (x ∷ xs) = stmt_text x ++ stmts_text xs
 
+-- let x = e ;
+abbrev pub let_text : Text → Expr → Text
+let_text x value = mark_out m.Let ++ (name_out x ++ (mark_out m.Assign ++ (expr_text value ++ mark_out m.Semicolon)))
+
+-- extra x { .. }
+abbrev pub extra_text : Text → List Add → Text
+extra_text x body = mark_out m.Extra ++ (name_out x ++ braced (adds_text body))
+
+-- if e
+abbrev pub if_text : Expr → Text
+if_text test = mark_out m.If ++ expr_text test
+
 -- ---- rules
 
 abbrev pub names_text : List Text → Text

@@ -102,6 +102,11 @@ lookup (k ∷ ks) word = if bytes_eq k.0 word then Some k.1 else lookup ks word
 unfoldable pub keyword : Text → Option Mark
 keyword = lookup (map (λ k. (k.0.now, k.1)) WORDS)
 
+-- whether a word is reserved
+abbrev pub is_found : Option Mark → Bool
+is_found None = false
+is_found (Some k) = true
+
 abbrev pub name_found : Text → Lexeme
 name_found word = if starts_with_letter word then l.Name word else l.Underscored
 

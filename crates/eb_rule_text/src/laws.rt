@@ -1,6 +1,8 @@
 // That the reader and the grammar are one.
 ghost use Rattle.std.specs.Prelude.{◌≡◌, [], ℕ, List, Ok};
+ghost use Rattle.eb_base.specs.TypeNames.{is_reserved};
 ghost use Rattle.eb_rule_text.specs.Blocks as spec;
+ghost use Rattle.eb_rule_text.specs.Tokens.{is_found, keyword};
 ghost use Rattle.eb_rule_text.specs.Grammar.{IsJob, IsRules};
 ghost use Rattle.eb_rule_text.specs.Input.{Input};
 ghost use Rattle.eb_rule_text.specs.Passes.{placed, read_text};
@@ -26,4 +28,9 @@ pub fn printed_reads_back()
         → (more : List ℕ) × (read_text spec.rules (rules_text x) ≡ Ok (placed x more)) }
     ensures job { (text : List ℕ) (x : JobTree) (places : List ℕ) → read_text spec.job text ≡ Ok (placed x places)
         → (more : List ℕ) × (read_text spec.job (job_text x) ≡ Ok (placed x more)) }
+{}
+
+/// The law that the words that tokens keep are those that no type or field may have as its name.
+pub fn words_are_reserved()
+    ensures { (word : List ℕ) → is_reserved word ≡ is_found (keyword word) }
 {}

@@ -14,6 +14,8 @@ pub mod marks;
 pub mod parsing;
 pub mod passes;
 pub mod printing;
+mod put_reads;
+mod put_trees;
 mod queries;
 mod reads;
 mod spelling;
@@ -25,6 +27,7 @@ pub use lexing::lex;
 pub use marks::Mark;
 pub use parsing::{parse_job, parse_rules};
 pub use passes::{Placed, read_job, read_rules};
+pub use printing::{print_job, print_rules};
 pub use trees::{
     Add, Baker, Command, Context, Expr, FieldPath, Find, Init, JobTree, Link, Op, Query, Reach,
     Read, Rule, RulesTree, Stmt, System, Target,

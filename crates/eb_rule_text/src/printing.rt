@@ -1,207 +1,178 @@
 // From trees to texts that read back as the same trees.
-ghost use Rattle.std.specs.Prelude.{◌≡◌, ◌++◌, [], OnOk};
+ghost use Rattle.std.specs.Prelude.{◌≡◌, ◌++◌, IfOk, OnOk};
 ghost use Rattle.eb_rule_text.specs.Printing as spec;
-ghost use Rattle.eb_rule_text.specs.Spelled as spelled;
-ghost use Rattle.eb_rule_text.specs.Spelling.{text_of};
 
 use crate::marks::Mark;
-use crate::spelling::{put_mark, put_name};
-use crate::trees::{FieldPath, Find, Reach, Read};
+use crate::put_reads::put_link_in;
+use crate::put_trees::{put_block, put_expr, put_inits};
+use crate::spelling::{put_int, put_mark, put_name};
+use crate::trees::{Baker, Command, JobTree, Query, Rule, RulesTree, System, Target};
 use eb_base::{Memory, Text};
+use std::alloc::Global;
 
-// T . f
-fn put_path(out: &mut Vec<u8>, path: &FieldPath) -> Result<(), Memory>
-    ensures { OnOk result (out.new.items ≡ out.old.items ++ text_of (spelled.path_then path.now [])) }
+/// A text that reads back as the same tree, if the tree was read from a text: a blank behind each token, and a line's end behind
+/// `;` and `}`. Comments, blanks and the way that numbers were written are lost. Takes time and memory linear in the text.
+#[tactic(auto, unfolding(crate::specs::Printing::rules_text))]
+pub fn print_rules(alloc: Global, tree: &RulesTree) -> Result<Text, Memory>
+    ensures { IfOk result (λ text. text ≡ spec.rules_text tree.now) }
 {
-    put_name(out, &path.kind)?;
-    put_mark(out, Mark::Dot)?;
-    put_name(out, &path.field)?;
+    let mut out = Vec::new(alloc);
+    put_rules(alloc, &mut out, tree.rules.as_slice())?;
+    Ok(Text::from_vec(out))
+}
+
+/// The same of a job.
+#[tactic(auto, unfolding(crate::specs::Printing::job_text))]
+pub fn print_job(alloc: Global, tree: &JobTree) -> Result<Text, Memory>
+    ensures { IfOk result (λ text. text ≡ spec.job_text tree.now) }
+{
+    let mut out = Vec::new(alloc);
+    put_mark(&mut out, Mark::Job)?;
+    put_query(&mut out, &tree.query)?;
+    put_mark(&mut out, Mark::Key)?;
+    put_expr(alloc, &mut out, &tree.key)?;
+    put_braced(alloc, &mut out, tree.commands.as_slice())?;
+    Ok(Text::from_vec(out))
+}
+
+fn put_names(out: &mut Vec<u8>, names: &[Text]) -> Result<(), Memory>
+    ensures { OnOk result (out.new.items ≡ out.old.items ++ spec.names_text names.now) }
+{
+    for name in names {
+        put_name(out, name)?;
+    }
     Ok(())
 }
 
-// ( T )
-fn put_kind(out: &mut Vec<u8>, kind: &Text) -> Result<(), Memory>
-    ensures { OnOk result (out.new.items ≡ out.old.items ++ text_of (spelled.kind_then kind.now [])) }
+// A word and the names behind it, where there are any.
+fn put_list(out: &mut Vec<u8>, word: Mark, names: &[Text]) -> Result<(), Memory>
+    ensures { OnOk result (out.new.items ≡ out.old.items ++ spec.list_text word names.now) }
 {
-    put_mark(out, Mark::LParen)?;
-    put_name(out, kind)?;
-    put_mark(out, Mark::RParen)?;
-    Ok(())
-}
-
-// ( T ) . f
-fn put_member(out: &mut Vec<u8>, path: &FieldPath) -> Result<(), Memory>
-    ensures { OnOk result (out.new.items ≡ out.old.items ++ text_of (spelled.member_then path.now [])) }
-{
-    put_kind(out, &path.kind)?;
-    put_mark(out, Mark::Dot)?;
-    put_name(out, &path.field)?;
-    Ok(())
-}
-
-// ( T . f )
-fn put_path_in(out: &mut Vec<u8>, path: &FieldPath) -> Result<(), Memory>
-    ensures { OnOk result (out.new.items ≡ out.old.items ++ text_of (spelled.path_in_then path.now [])) }
-{
-    put_mark(out, Mark::LParen)?;
-    put_path(out, path)?;
-    put_mark(out, Mark::RParen)?;
-    Ok(())
-}
-
-// ( this . T . r )
-pub fn put_link_in(out: &mut Vec<u8>, path: &FieldPath) -> Result<(), Memory>
-    ensures { OnOk result (out.new.items ≡ out.old.items ++ text_of (spelled.link_in_then path.now [])) }
-{
-    put_mark(out, Mark::LParen)?;
-    put_mark(out, Mark::This)?;
-    put_mark(out, Mark::Dot)?;
-    put_path(out, path)?;
-    put_mark(out, Mark::RParen)?;
-    Ok(())
-}
-
-// ( this . a )
-fn put_field_in(out: &mut Vec<u8>, field: &Text) -> Result<(), Memory>
-    ensures { OnOk result (out.new.items ≡ out.old.items ++ text_of (spelled.field_in_then field.now [])) }
-{
-    put_mark(out, Mark::LParen)?;
-    put_mark(out, Mark::This)?;
-    put_mark(out, Mark::Dot)?;
-    put_name(out, field)?;
-    put_mark(out, Mark::RParen)?;
-    Ok(())
-}
-
-fn reach_mark(over: Reach) -> Mark
-    ensures { result ≡ spelled.reach_mark over }
-{
-    match over {
-        Reach::Children => Mark::Children,
-        Reach::Within => Mark::Within,
+    match names {
+        [] => Ok(()),
+        [first, more @ ..] => {
+            put_mark(out, word)?;
+            put_name(out, first)?;
+            put_names(out, more)?;
+            Ok(())
+        }
     }
 }
 
-// A read without its `or`.
-#[tactic(auto, unfolding(crate::specs::Printing::find_text))]
-fn put_find(out: &mut Vec<u8>, read: &Find) -> Result<(), Memory>
-    ensures { OnOk result (out.new.items ≡ out.old.items ++ spec.find_text read.now) }
+fn put_query(out: &mut Vec<u8>, query: &Query) -> Result<(), Memory>
+    ensures { OnOk result (out.new.items ≡ out.old.items ++ spec.query_text query.now) }
 {
-    match read {
-        Find::Own(path) => {
-            put_mark(out, Mark::Own)?;
-            put_member(out, path)?;
-            Ok(())
-        }
-        Find::Parent(path) => {
-            put_mark(out, Mark::Parent)?;
-            put_member(out, path)?;
-            Ok(())
-        }
-        Find::Asset(link, field) => {
-            put_mark(out, Mark::Asset)?;
-            put_field_in(out, link)?;
-            put_mark(out, Mark::Dot)?;
-            put_name(out, field)?;
-            Ok(())
-        }
-        Find::Min(over, path) => {
-            put_mark(out, Mark::Min)?;
-            put_mark(out, reach_mark(*over))?;
-            put_member(out, path)?;
-            Ok(())
-        }
-        Find::Max(over, path) => {
-            put_mark(out, Mark::Max)?;
-            put_mark(out, reach_mark(*over))?;
-            put_member(out, path)?;
-            Ok(())
-        }
-        Find::At(link, path) => {
+    put_list(out, Mark::All, query.all.as_slice())?;
+    put_list(out, Mark::Any, query.any.as_slice())?;
+    put_list(out, Mark::None, query.none.as_slice())?;
+    Ok(())
+}
+
+fn put_baker(alloc: Global, out: &mut Vec<u8>, baker: &Baker) -> Result<(), Memory>
+    ensures { OnOk result (out.new.items ≡ out.old.items ++ spec.baker_text baker.now) }
+{
+    put_mark(out, Mark::Baker)?;
+    put_int(alloc, out, baker.number)?;
+    put_mark(out, Mark::On)?;
+    put_name(out, &baker.authoring)?;
+    put_block(alloc, out, baker.body.as_slice())?;
+    Ok(())
+}
+
+fn put_system(alloc: Global, out: &mut Vec<u8>, system: &System) -> Result<(), Memory>
+    ensures { OnOk result (out.new.items ≡ out.old.items ++ spec.system_text system.now) }
+{
+    put_mark(out, Mark::System)?;
+    put_int(alloc, out, system.number)?;
+    put_query(out, &system.query)?;
+    put_block(alloc, out, system.body.as_slice())?;
+    Ok(())
+}
+
+fn put_rule(alloc: Global, out: &mut Vec<u8>, rule: &Rule) -> Result<(), Memory>
+    ensures { OnOk result (out.new.items ≡ out.old.items ++ spec.rule_text rule.now) }
+{
+    match rule {
+        Rule::Baker(baker) => put_baker(alloc, out, baker),
+        Rule::System(system) => put_system(alloc, out, system),
+    }
+}
+
+fn put_rules(alloc: Global, out: &mut Vec<u8>, rules: &[Rule]) -> Result<(), Memory>
+    ensures { OnOk result (out.new.items ≡ out.old.items ++ spec.rule_list_text rules.now) }
+{
+    for rule in rules {
+        put_rule(alloc, out, rule)?;
+    }
+    Ok(())
+}
+
+fn put_target(out: &mut Vec<u8>, target: &Target) -> Result<(), Memory>
+    ensures { OnOk result (out.new.items ≡ out.old.items ++ spec.target_text target.now) }
+{
+    match target {
+        Target::This => put_mark(out, Mark::This),
+        Target::Name(name) => put_name(out, name),
+        Target::At(link) => {
             put_mark(out, Mark::At)?;
             put_link_in(out, link)?;
-            put_mark(out, Mark::Dot)?;
-            put_path(out, path)?;
-            Ok(())
-        }
-        Find::MaxAll(path) => {
-            put_mark(out, Mark::Max)?;
-            put_mark(out, Mark::All)?;
-            put_path_in(out, path)?;
             Ok(())
         }
     }
 }
 
-// Reads, each with its `or`.
-fn put_finds(out: &mut Vec<u8>, reads: &[Find]) -> Result<(), Memory>
-    ensures { OnOk result (out.new.items ≡ out.old.items ++ spec.finds_text reads.now) }
+fn put_command(alloc: Global, out: &mut Vec<u8>, command: &Command) -> Result<(), Memory>
+    ensures { OnOk result (out.new.items ≡ out.old.items ++ spec.command_text command.now) }
 {
-    for read in reads {
-        put_find(out, read)?;
-        put_mark(out, Mark::Or)?;
+    match command {
+        Command::Create(name) => {
+            put_mark(out, Mark::Create)?;
+            put_name(out, name)?;
+            Ok(())
+        }
+        Command::Destroy(on) => {
+            put_mark(out, Mark::Destroy)?;
+            put_target(out, on)?;
+            Ok(())
+        }
+        Command::Remove(on, kind) => {
+            put_mark(out, Mark::Remove)?;
+            put_target(out, on)?;
+            put_name(out, kind)?;
+            Ok(())
+        }
+        Command::Add(on, kind, inits) => {
+            put_mark(out, Mark::Add)?;
+            put_target(out, on)?;
+            put_name(out, kind)?;
+            put_inits(alloc, out, inits.as_slice())?;
+            Ok(())
+        }
+        Command::Set(on, kind, inits) => {
+            put_mark(out, Mark::Set)?;
+            put_target(out, on)?;
+            put_name(out, kind)?;
+            put_inits(alloc, out, inits.as_slice())?;
+            Ok(())
+        }
+    }
+}
+
+fn put_commands(alloc: Global, out: &mut Vec<u8>, commands: &[Command]) -> Result<(), Memory>
+    ensures { OnOk result (out.new.items ≡ out.old.items ++ spec.commands_text commands.now) }
+{
+    for command in commands {
+        put_command(alloc, out, command)?;
     }
     Ok(())
 }
 
-// What an entity's parentheses hold is put by the reads themselves.
-#[tactic(auto, unfolding(crate::specs::Printing::read_text))]
-fn put_read(out: &mut Vec<u8>, read: &Read) -> Result<(), Memory>
-    ensures { OnOk result (out.new.items ≡ out.old.items ++ spec.read_text read.now) }
+// The commands and their braces.
+fn put_braced(alloc: Global, out: &mut Vec<u8>, commands: &[Command]) -> Result<(), Memory>
+    ensures { OnOk result (out.new.items ≡ out.old.items ++ spec.braced (spec.commands_text commands.now)) }
 {
-    match read {
-        Read::This(field) => {
-            put_mark(out, Mark::This)?;
-            put_mark(out, Mark::Dot)?;
-            put_name(out, field)?;
-            Ok(())
-        }
-        Read::Field(path) => {
-            put_mark(out, Mark::This)?;
-            put_mark(out, Mark::Dot)?;
-            put_path(out, path)?;
-            Ok(())
-        }
-        Read::Sum(over, path) => {
-            put_mark(out, Mark::Sum)?;
-            put_mark(out, reach_mark(*over))?;
-            put_member(out, path)?;
-            Ok(())
-        }
-        Read::Count(over, kind) => {
-            put_mark(out, Mark::Count)?;
-            put_mark(out, reach_mark(*over))?;
-            put_kind(out, kind)?;
-            Ok(())
-        }
-        Read::SumAll(path) => {
-            put_mark(out, Mark::Sum)?;
-            put_mark(out, Mark::All)?;
-            put_path_in(out, path)?;
-            Ok(())
-        }
-        Read::CountAll(kind) => {
-            put_mark(out, Mark::Count)?;
-            put_mark(out, Mark::All)?;
-            put_kind(out, kind)?;
-            Ok(())
-        }
-        Read::Entity => {
-            put_mark(out, Mark::Entity)?;
-            put_mark(out, Mark::LParen)?;
-            put_mark(out, Mark::This)?;
-            put_mark(out, Mark::RParen)?;
-            Ok(())
-        }
-        Read::EntityAt(field) => {
-            put_mark(out, Mark::Entity)?;
-            put_field_in(out, field)?;
-            Ok(())
-        }
-        Read::EntityOf(name) => {
-            put_mark(out, Mark::Entity)?;
-            put_kind(out, name)?;
-            Ok(())
-        }
-    }
+    put_mark(out, Mark::LBrace)?;
+    put_commands(alloc, out, commands)?;
+    put_mark(out, Mark::RBrace)?;
+    Ok(())
 }
