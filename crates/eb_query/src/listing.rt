@@ -1,6 +1,8 @@
 // The names that live, ascending.
 ghost use Rattle.std.specs.Prelude.{◌≡◌, ◌<◌, Some, IfOk, length, slice_get};
 ghost use Rattle.std.specs.FinMap as finite;
+ghost use Rattle.std.specs.List.Sorted.{IsPermutation, IsSorted};
+ghost use Rattle.eb_base.specs.Names.{name_cmp};
 
 use eb_base::{Memory, Name};
 use eb_world::World;
@@ -31,12 +33,21 @@ fn listed_names(alloc: Global, world: &World) -> Result<Vec<Name>, Memory>
     Ok(names)
 }
 
+/// The same names, ascending.
+fn ascending(names: Vec<Name>) -> Vec<Name>
+    ensures same { IsPermutation names.items result.items }
+    ensures order { IsSorted name_cmp result.items }
+{
+    let mut names = names;
+    names.sort_unstable();
+    names
+}
+
 /// All live names, ascending: they are sorted once.
 pub fn live_names(alloc: Global, world: &World) -> Result<Vec<Name>, Memory>
     ensures { IfOk result (λ names. names.items ≡ finite.keys world.now.live) }
 {
     world.is_whole();
-    let mut names = listed_names(alloc, world)?;
-    names.sort_unstable();
-    Ok(names)
+    let names = listed_names(alloc, world)?;
+    Ok(ascending(names))
 }

@@ -10,6 +10,6 @@ use Rattle.eb_query.proofs.listing.live_names.Goals as goal
 pub returns : goal.returns
 returns c =
     let live = c.args.world.now.live in
-    sorted_once names_total exact_names (finite.keys live) c.args.world.now.order c.sort_unstable.new.self.items
+    sorted_once names_total exact_names (finite.keys live) c.args.world.now.order c.ascending.result.items
     (sorted_keys name_cmp (finite.entries live) (finite.entries_sorted live)) c.is_whole.ensures.order
-    (subst (λ ns. IsPermutation ns c.sort_unstable.new.self.items) c.in_ok-names.ensures c.sort_unstable.ensures.permutation) c.sort_unstable.ensures.sorted
+    (subst (λ ns. IsPermutation ns c.ascending.result.items) c.in_ok-names.ensures c.ascending.ensures.same) c.ascending.ensures.order

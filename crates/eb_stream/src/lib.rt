@@ -1,0 +1,7 @@
+//! Sections into a running world, and out of it.
+#![tactic(auto)]
+
+pub mod loading;
+mod rows;
+
+pub use loading::{LoadFault, load, unload};
