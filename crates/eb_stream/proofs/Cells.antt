@@ -1,9 +1,7 @@
 -- Rows of numbers: as rows of a world they are what the image says, and they fit the schema.
-use Rattle.std.proofs.Common.{◌≡◌, ℕ, zero, suc, ◌+◌, ◌<◌, ◌≤◌, Bool, true, false, cond, ◌||◌, nat_eq, nat_lt, List, [], ◌∷◌, ◌++◌, map, length, refl, sym, ◌∙◌, ap, subst, T, arith, append_assoc, append-nil, nat_cmp, Less, Equal, Greater, Ordering}
-use Rattle.std.specs.Prelude.{Option, Some, None, All, IsSomeAnd, is_some, ⊤, find}
-use Rattle.std.specs.List.{AllByRecursion, AllZip}
-use Rattle.std.specs.List.Sorted.{IsStrictlySortedBy}
-use Rattle.std.specs.Ordering.{match_ordering}
+use Rattle.std.proofs.Common.{◌≡◌, List, [], ◌∷◌, map, refl, arith}
+use Rattle.std.specs.Prelude.{Option, Some, None, All, IsSomeAnd}
+use Rattle.std.specs.List.{AllZip}
 use Rattle.std.specs.FinMap.{contains_key}
 use Rattle.std.proofs.lemmas.List.Elements.{All-cons, All-tail}
 use Rattle.eb_schema.specs.declared.kinds.Kind.{Kind}
@@ -11,17 +9,14 @@ use Rattle.eb_schema.specs.declared.kinds.Kind.TheVariants.{I8, I16, I32, I64, F
 use Rattle.eb_schema.specs.declared.kinds.Mode.TheVariants as modes
 use Rattle.eb_schema.specs.declared.kinds.Field.{Field}
 use Rattle.eb_schema.specs.declared.kinds.Component.{Component}
-use Rattle.eb_schema.specs.declared.rows.Val.{Val}
-use Rattle.eb_schema.specs.declared.rows.Cell.{Cell}
 use Rattle.eb_schema.specs.Schemas.{Types, component_of}
-use Rattle.eb_file.specs.declared.images.Link.TheVariants as link
 use Rattle.eb_file.specs.declared.images.Stored.{Stored}
 use Rattle.eb_file.specs.declared.images.Stored.TheVariants as stored
 use Rattle.eb_file.specs.declared.images.StoredCell.{StoredCell}
 use Rattle.eb_file.specs.declared.images.ImageRow.{ImageRow}
 use Rattle.eb_file.specs.declared.images.Image.{Image}
 use Rattle.eb_file.specs.Images as image
-use Rattle.eb_world.specs.Worlds.{CellFits, Live, RowFits, ValueFits, in_row, kept, kept_value}
+use Rattle.eb_world.specs.Worlds.{CellFits, Live, RowFits, ValueFits, kept, kept_value}
 use Rattle.eb_stream.specs.Loading.{AreNumbers, IsNumber, loaded_cells, loaded_value}
 use Rattle.eb_stream.specs.Numbers.{number_cell, number_cells, number_of}
 

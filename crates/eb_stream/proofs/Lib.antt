@@ -1,3 +1,4 @@
 pub mod Cells
 pub mod RowEnds
+pub mod Plain
 pub mod Steps

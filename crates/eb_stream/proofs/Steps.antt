@@ -1,6 +1,6 @@
 -- One row after another is created.
-use Rattle.std.proofs.Common.{◌≡◌, ℕ, zero, suc, ◌+◌, ◌<◌, ◌≤◌, ◌^◌, Bool, true, false, cond, List, [], ◌∷◌, map, length, drop, refl, sym, ◌∙◌, ap, subst, T, arith, Less}
-use Rattle.std.specs.Prelude.{Option, Some, None, All, is_some, slice_get}
+use Rattle.std.proofs.Common.{◌≡◌, ℕ, zero, suc, ◌+◌, ◌<◌, ◌≤◌, ◌^◌, Bool, true, false, cond, List, [], ◌∷◌, map, length, drop, refl, sym, ◌∙◌, ap, subst, arith, Less}
+use Rattle.std.specs.Prelude.{Some, None, All, is_some, slice_get}
 use Rattle.std.specs.List.{AllByRecursion}
 use Rattle.std.specs.List.Sorted.{IsStrictlySortedBy}
 use Rattle.std.specs.Cmp.{eq_by_cmp_equiv}
@@ -19,7 +19,7 @@ use Rattle.eb_schema.specs.Rows.{kinds_of}
 use Rattle.eb_file.specs.declared.images.StoredCell.{StoredCell}
 use Rattle.eb_file.specs.declared.images.ImageRow.{ImageRow}
 use Rattle.eb_file.specs.Images.{names_of}
-use Rattle.eb_world.specs.Worlds.{Handles, Live, Living, RowFits, Spare, World, created, kept, living, most_live, with_spare}
+use Rattle.eb_world.specs.Worlds.{Live, Living, RowFits, Spare, World, created, living, most_live, with_spare}
 use Rattle.eb_world.proofs.MapFacts.{same_key}
 use Rattle.eb_world.proofs.Naming.{not_none, same_some, true_false}
 use Rattle.eb_stream.specs.Loading.{AreNew, AreNumbers, IsNumber, KeepsHandles, loaded_cells, with_rows}
@@ -108,7 +108,7 @@ loaded_rows before place now (r ∷ rs) h =
     let cells = cells_same before (insert now r.name (living (Some place) (number_cells r.cells))) r.cells (h 0 r (omega arith)) in
     ap (λ cs. created_rows place (insert now r.name (living (Some place) cs)) rs) cells
     ∙ loaded_rows before place (insert now r.name (living (Some place) (loaded_cells before r.cells))) rs
-      (All-tail (λ (row : ImageRow). All (λ (c : StoredCell). All IsNumber c.values) row.cells) r rs h)
+    (All-tail (λ (row : ImageRow). All (λ (c : StoredCell). All IsNumber c.values) row.cells) r rs h)
 
 -- ---- a list that is gone through by places
 

@@ -1,6 +1,6 @@
 -- What a world is after a section was loaded or unloaded.
-use Rattle.std.specs.Prelude.{◌≡◌, ℕ, ◌+◌, ◌<◌, ◌≤◌, Bool, true, false, cond, List, [], ◌∷◌, map, length, Option, Some, None, All, Result, Ok, Err, ⊤}
-use Rattle.std.specs.FinMap.{contains_key, get, insert, len}
+use Rattle.std.specs.Prelude.{◌≡◌, ℕ, ◌<◌, ◌≤◌, true, false, cond, List, [], ◌∷◌, map, Some, All, Result, Ok, Err, ⊤}
+use Rattle.std.specs.FinMap.{contains_key, get, insert}
 use Rattle.eb_base.specs.declared.names.Name.{Name}
 use Rattle.eb_base.specs.declared.names.Place.{Place}
 use Rattle.eb_schema.specs.declared.rows.Val.{Val}

@@ -5,3 +5,6 @@ pub mod loading;
 mod rows;
 
 pub use loading::{LoadFault, load, unload};
+
+#[cfg(test)]
+mod tests;

@@ -1,6 +1,6 @@
-use Rattle.std.proofs.Common.{sym, ap, subst, ◌∙◌, ◌∷◌, ◌+◌, drop, length, true, ◌≡◌, arith}
+use Rattle.std.proofs.Common.{sym, ap, subst, ◌∙◌, ◌+◌, drop, length, true, ◌≡◌, arith}
 use Rattle.std.specs.FinMap.{contains_key}
-use Rattle.eb_stream.specs.Numbers.{IsReady, created_rows}
+use Rattle.eb_stream.specs.Numbers.{created_rows}
 use Rattle.eb_stream.proofs.Steps.{handles_kept, live_after, lives_on, next_at, ready_after, ready_at, ready_fits, ready_new, ready_next}
 use Rattle.eb_stream.proofs.loading.create_all.Goals as goal
 

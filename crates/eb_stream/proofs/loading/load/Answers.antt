@@ -18,9 +18,9 @@ create_all-requires-clause-ready c =
     let rows = c.in_ok-rows.rows in
     let same = c.in_ok-rows.ensures ∙ ap (map (λ (r : ImageRow). number_cells r.cells)) c.items.ensures in
     let fits = subst (All (RowFits c.args.world.now.types)) (sym same)
-          (rows_fit c.args.image.now c.args.world.now.types c.args.image.now.rows c.requires.numbers c.requires.valid.rows) in
+    (rows_fit c.args.image.now c.args.world.now.types c.args.image.now.rows c.requires.numbers c.requires.valid.rows) in
     let ready = ready_reserved c.args.image.now.place c.args.world.now c.args.image.now.rows rows same fits
-          (omega (arith, c.if-count-gt-MOST_LIVE.false, c.live.ensures, c.len.ensures)) c.requires.new c.requires.valid.order c.requires.serials in
+    (omega (arith, c.if-count-gt-MOST_LIVE.false, c.live.ensures, c.len.ensures)) c.requires.new c.requires.valid.order c.requires.serials in
     subst (λ w. IsReady c.args.image.now.place w c.args.image.now.rows rows)
     (sym (c.in_ok-reserve.ensures.ok ∙ ap (λ rs. with_spare c.args.world.now (record { tag = Some c.args.image.now.place; kinds = map kinds_of rs })) c.items-2.ensures)) ready
 

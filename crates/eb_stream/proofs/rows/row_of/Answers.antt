@@ -1,4 +1,4 @@
-use Rattle.std.proofs.Common.{ℕ, suc, sym, ap, subst, ◌∙◌, ◌∷◌, ◌+◌, ◌<◌, ◌≡◌, drop, length, get_or, arith}
+use Rattle.std.proofs.Common.{suc, sym, ap, subst, ◌∙◌, ◌∷◌, ◌+◌, ◌<◌, ◌≡◌, drop, length, get_or, arith}
 use Rattle.std.proofs.Math.Seq.{drop-cons}
 use Rattle.eb_schema.specs.Rows.{put_cell}
 use Rattle.eb_stream.proofs.RowEnds.{put_next}
