@@ -1,0 +1,4 @@
+-- What the contracts of this crate say.
+pub mod Shapes
+pub mod Scopes
+pub mod Typing

@@ -1,0 +1,15 @@
+//! The rules of a project: names and types of the rule language over a schema.
+#![tactic(auto)]
+
+pub mod faults;
+mod fields;
+mod finds;
+mod reads;
+pub mod scopes;
+mod shapes;
+pub mod typing;
+
+pub use faults::{Refusal, RuleKind};
+pub use scopes::{Bound, Scope, Visible};
+pub use shapes::Shape;
+pub use typing::typed;
