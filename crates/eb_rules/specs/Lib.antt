@@ -2,3 +2,4 @@
 pub mod Shapes
 pub mod Scopes
 pub mod Typing
+pub mod Statements

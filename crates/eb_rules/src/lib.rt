@@ -4,12 +4,15 @@
 pub mod faults;
 mod fields;
 mod finds;
+mod inits;
 mod reads;
 pub mod scopes;
 mod shapes;
 pub mod typing;
+pub mod walking;
 
 pub use faults::{Refusal, RuleKind};
 pub use scopes::{Bound, Scope, Visible};
 pub use shapes::Shape;
 pub use typing::typed;
+pub use walking::{Ground, State, WalkError};
