@@ -75,7 +75,7 @@ pub fn find_bound(name: &[u8], known: &[Visible]) -> Option<Bound>
 }
 
 /// Whether the query asks for the type.
-fn is_in_all(kind: TypeNo, all: &[TypeNo]) -> bool
+pub fn is_in_all(kind: TypeNo, all: &[TypeNo]) -> bool
     ensures { result ≡ scopes.is_in_all kind all.now }
 {
     for other in all {
@@ -99,7 +99,7 @@ pub fn authoring_fields<'s>(schema: &'s Schema, name: &[u8]) -> Option<&'s [Fiel
     }
 }
 
-fn component_fields(schema: &Schema, number: TypeNo) -> Option<&[Field]>
+pub fn component_fields(schema: &Schema, number: TypeNo) -> Option<&[Field]>
     ensures { option_copied result ≡ scopes.component_fields schema.now number }
 {
     match schema.component(number) {
@@ -126,7 +126,7 @@ fn field_at(
 
 /// T.f of an authoring type.
 pub fn authored(
-    scope: &Scope<'_>,
+    scope: &Scope<'_, '_>,
     path: &FieldPath,
     kind_at: usize,
     at: usize,
@@ -140,7 +140,7 @@ pub fn authored(
 
 /// T.f of a component type.
 pub fn of_component(
-    scope: &Scope<'_>,
+    scope: &Scope<'_, '_>,
     path: &FieldPath,
     kind_at: usize,
     at: usize,
@@ -162,7 +162,7 @@ pub fn of_component(
 
 /// T.f of a component type that the query asks for: `TypeFault` at T where it doesn't.
 pub fn asked(
-    scope: &Scope<'_>,
+    scope: &Scope<'_, '_>,
     path: &FieldPath,
     kind_at: usize,
     at: usize,

@@ -35,7 +35,11 @@ fn only_where(holds: bool, shape: Option<Shape>) -> Option<Shape>
 }
 
 // The shape of the number that the read finds, and none where it breaks its rule.
-fn find_shape(scope: &Scope<'_>, find: &Find, places: &[usize]) -> Result<Option<Shape>, Refusal>
+fn find_shape(
+    scope: &Scope<'_, '_>,
+    find: &Find,
+    places: &[usize],
+) -> Result<Option<Shape>, Refusal>
     ensures { result ≡ spec.find_shape scope.now find.now places.now }
 {
     match find {
@@ -89,7 +93,7 @@ fn find_tokens(find: &Find) -> usize
 
 /// The names of all reads, in the order of the text, and the places behind them.
 pub fn find_names<'p>(
-    scope: &Scope<'_>,
+    scope: &Scope<'_, '_>,
     finds: &[Find],
     places: &'p [usize],
 ) -> Result<&'p [usize], Refusal>
@@ -114,7 +118,12 @@ fn agrees(found: Result<Option<Shape>, Refusal>, shape: Shape) -> bool
 }
 
 /// The place of the innermost read that doesn't find what stands behind the last `or`.
-pub fn innermost(scope: &Scope<'_>, shape: Shape, finds: &[Find], places: &[usize]) -> Option<usize>
+pub fn innermost(
+    scope: &Scope<'_, '_>,
+    shape: Shape,
+    finds: &[Find],
+    places: &[usize],
+) -> Option<usize>
     ensures { result ≡ spec.innermost scope.now shape finds.now places.now None }
 {
     let mut rest = places;

@@ -50,7 +50,7 @@ fn fits(wanted: Option<Shape>, shape: Shape) -> bool
 
 // A value of this kind, or the fault of the whole value.
 fn value_typed<'p>(
-    scope: &Scope<'_>,
+    scope: &Scope<'_, '_>,
     kind: Kind,
     value: &Expr,
     places: &'p [usize],
@@ -67,7 +67,7 @@ fn value_typed<'p>(
 
 // f : e
 fn init_typed<'p>(
-    scope: &Scope<'_>,
+    scope: &Scope<'_, '_>,
     fields: &[Field],
     left: &[Field],
     init: &Init,
@@ -108,7 +108,7 @@ fn later(fields: &[Field]) -> &[Field]
 /// The values of all fields of a component, in the order of the schema, and the closing brace. The places are those behind the
 /// opening brace.
 pub fn inits_typed<'p>(
-    scope: &Scope<'_>,
+    scope: &Scope<'_, '_>,
     fields: &[Field],
     inits: &[Init],
     places: &'p [usize],

@@ -1,6 +1,7 @@
 //! The rules of a project: names and types of the rule language over a schema.
 #![tactic(auto)]
 
+mod adds;
 pub mod faults;
 mod fields;
 mod finds;
@@ -8,11 +9,13 @@ mod inits;
 mod reads;
 pub mod scopes;
 mod shapes;
+pub mod statements;
 pub mod typing;
 pub mod walking;
 
 pub use faults::{Refusal, RuleKind};
 pub use scopes::{Bound, Scope, Visible};
 pub use shapes::Shape;
+pub use statements::{inside, walk};
 pub use typing::typed;
 pub use walking::{Ground, State, WalkError};

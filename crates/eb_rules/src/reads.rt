@@ -50,7 +50,7 @@ fn entity_of(bound: Option<Bound>, places: &[usize]) -> Result<Shape, Refusal>
 }
 
 /// The shape of a read that always has a value.
-pub fn read_shape(scope: &Scope<'_>, read: &Read, places: &[usize]) -> Result<Shape, Refusal>
+pub fn read_shape(scope: &Scope<'_, '_>, read: &Read, places: &[usize]) -> Result<Shape, Refusal>
     ensures { result ≡ spec.read_shape scope.now read.now places.now }
 {
     match read {

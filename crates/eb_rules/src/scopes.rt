@@ -21,17 +21,18 @@ pub struct Visible {
 }
 
 /// Where an expression stands.
-pub struct Scope<'a> {
-    pub schema: &'a Schema,
+#[derive(Drop)]
+pub struct Scope<'g, 'k> {
+    pub schema: &'g Schema,
     /// The fields of the baker's own authoring type; none in systems and jobs.
-    pub own: &'a [Field],
+    pub own: &'g [Field],
     /// The types in the list `all` of the query; none in bakers.
-    pub all: &'a [TypeNo],
+    pub all: &'g [TypeNo],
     /// The visible names, each different.
-    pub known: &'a [Visible],
+    pub known: &'k [Visible],
 }
 
-impl<'a> Model for Scope<'a> {
+impl<'g, 'k> Model for Scope<'g, 'k> {
     ghost use Rattle.eb_rules.specs.Scopes.{Where};
 
     ghost Value = { Where };

@@ -52,7 +52,7 @@ fn agreed(fault: Option<usize>, shape: Shape, rest: &[usize]) -> Result<(Shape, 
 #[cycle(typing)]
 #[tactic(auto, unfolding(crate::specs::Typing::typed))]
 pub fn typed<'p>(
-    scope: &Scope<'_>,
+    scope: &Scope<'_, '_>,
     expr: &Expr,
     places: &'p [usize],
 ) -> Result<(Shape, &'p [usize]), Refusal>
@@ -110,7 +110,7 @@ pub fn typed<'p>(
 #[cycle(typing)]
 #[tactic(auto, unfolding(crate::specs::Typing::typed))]
 fn typed_links<'p>(
-    scope: &Scope<'_>,
+    scope: &Scope<'_, '_>,
     links: &[Link<Expr>],
     first: Shape,
     places: &[usize],

@@ -47,6 +47,7 @@ pub struct State {
 }
 
 /// What stays the same on a walk.
+#[derive(Drop)]
 pub struct Ground<'a> {
     pub schema: &'a Schema,
     /// The fields of the baker's own authoring type; none in systems.
