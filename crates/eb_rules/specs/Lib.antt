@@ -3,3 +3,4 @@ pub mod Shapes
 pub mod Scopes
 pub mod Typing
 pub mod Statements
+pub mod Queries

@@ -6,6 +6,7 @@ pub mod faults;
 mod fields;
 mod finds;
 mod inits;
+pub mod queries;
 mod reads;
 pub mod scopes;
 mod shapes;
@@ -14,6 +15,7 @@ pub mod typing;
 pub mod walking;
 
 pub use faults::{Refusal, RuleKind};
+pub use queries::Query3;
 pub use scopes::{Bound, Scope, Visible};
 pub use shapes::Shape;
 pub use statements::{inside, walk};
