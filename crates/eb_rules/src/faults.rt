@@ -25,3 +25,12 @@ pub struct Refusal {
     pub kind: RuleKind,
     pub at: usize,
 }
+
+/// Why a text isn't one of rules or of a job.
+#[derive(Clone, Copy, Debug, PartialEq, Eq)]
+pub enum RuleFault {
+    /// Want of memory.
+    Memory,
+    /// A refusal and its byte; one above 4294967295 is given as that.
+    At { at: u32, kind: RuleKind },
+}

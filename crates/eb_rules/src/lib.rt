@@ -8,14 +8,16 @@ mod finds;
 mod inits;
 pub mod queries;
 mod reads;
+pub mod rules;
 pub mod scopes;
 mod shapes;
 pub mod statements;
 pub mod typing;
 pub mod walking;
 
-pub use faults::{Refusal, RuleKind};
+pub use faults::{Refusal, RuleFault, RuleKind};
 pub use queries::Query3;
+pub use rules::Rules;
 pub use scopes::{Bound, Scope, Visible};
 pub use shapes::Shape;
 pub use statements::{inside, walk};
