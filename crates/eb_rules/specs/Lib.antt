@@ -4,3 +4,4 @@ pub mod Scopes
 pub mod Typing
 pub mod Statements
 pub mod Queries
+pub mod Jobs

@@ -2,10 +2,12 @@
 #![tactic(auto)]
 
 mod adds;
+mod commands;
 pub mod faults;
 mod fields;
 mod finds;
 mod inits;
+pub mod jobs;
 pub mod queries;
 mod reads;
 pub mod rules;
@@ -16,6 +18,7 @@ pub mod typing;
 pub mod walking;
 
 pub use faults::{Refusal, RuleFault, RuleKind};
+pub use jobs::Job;
 pub use queries::Query3;
 pub use rules::Rules;
 pub use scopes::{Bound, Scope, Visible};
@@ -23,3 +26,6 @@ pub use shapes::Shape;
 pub use statements::{inside, walk};
 pub use typing::typed;
 pub use walking::{Ground, State, WalkError};
+
+#[cfg(test)]
+mod tests;

@@ -209,7 +209,7 @@ fn told(refusal: Refusal) -> RuleFault
     }
 }
 
-fn of_text(e: TextError) -> RuleFault
+pub fn of_text(e: TextError) -> RuleFault
     ensures { spec.OfText e result }
 {
     match e {
@@ -229,7 +229,7 @@ fn of_text(e: TextError) -> RuleFault
     }
 }
 
-fn of_walk(e: WalkError) -> RuleFault
+pub fn of_walk(e: WalkError) -> RuleFault
     ensures { spec.OfWalk e result }
 {
     match e {
