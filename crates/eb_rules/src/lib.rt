@@ -20,7 +20,7 @@ pub mod walking;
 pub use faults::{Refusal, RuleFault, RuleKind};
 pub use jobs::Job;
 pub use queries::Query3;
-pub use rules::Rules;
+pub use rules::{Rules, rules_text};
 pub use scopes::{Bound, Scope, Visible};
 pub use shapes::Shape;
 pub use statements::{inside, walk};

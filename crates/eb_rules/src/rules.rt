@@ -1,5 +1,6 @@
 // Names and types of whole rules, and rules of a text.
-ghost use Rattle.std.specs.Prelude.{◌≡◌, ◌++◌, ◌∷◌, [], MatchResult, Ok, Err};
+ghost use Rattle.std.specs.Prelude.{◌≡◌, ◌++◌, ◌∷◌, [], MatchResult, Ok, Err, IfOk};
+ghost use Rattle.eb_rule_text.specs.Printing as printing;
 ghost use Rattle.eb_rules.specs.Queries as spec;
 ghost use Rattle.eb_rules.specs.Scopes as scopes;
 ghost use Rattle.eb_rules.specs.Statements.{Stops};
@@ -9,8 +10,8 @@ use crate::fields::{authoring_fields, past, refused};
 use crate::queries::query_typed;
 use crate::statements::inside;
 use crate::walking::{Ground, State, WalkError};
-use eb_base::{Items, Memory};
-use eb_rule_text::{Baker, Rule, RulesTree, System, TextError, read_rules};
+use eb_base::{Items, Memory, Text};
+use eb_rule_text::{Baker, Rule, RulesTree, System, TextError, print_rules, read_rules};
 use eb_schema::Schema;
 use std::alloc::Global;
 use std::marker::Model;
@@ -267,4 +268,12 @@ impl Rules {
     {
         &self.tree
     }
+}
+
+/// The text of rules, which reads back as the same tree. `docs/rules.md`, "Printing".
+pub fn rules_text(alloc: Global, rules: &Rules) -> Result<Text, Memory>
+    ensures { IfOk result (λ text. text ≡ printing.rules_text rules.now) }
+{
+    let text = print_rules(alloc, rules.tree())?;
+    Ok(text)
 }

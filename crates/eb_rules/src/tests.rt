@@ -1,5 +1,5 @@
 // Rules that are read, and rules that are refused, over a small schema.
-use super::{RuleFault, RuleKind, Rules};
+use super::{Job, RuleFault, RuleKind, Rules, rules_text};
 use eb_schema::Schema;
 use serde_json::Value;
 use std::alloc::{AllocError, Global};
@@ -80,6 +80,28 @@ M system 1 ^any Gun none Value Gun { }
 M system 1 all Gun Gun Gun Gun Gun Gun Gun Gun Gun Gun Gun Gun Gun Gun Gun Gun any Gun Gun Gun Gun Gun Gun Gun Gun Gun Gun Gun Gun Gun Gun Gun Gun ^Gun { }
 M baker 1 on Nest { extra a{} extra b{} extra c{} extra d{} extra e{} extra f{} extra g{} extra h{} extra i{} extra j{} extra k{} extra l{} extra m{} extra n{} extra o{} extra p{} ^extra q{} }";
 
+// Jobs, in the same way.
+const JOBS: &str = "job all Value key -this.Value.v { set this Value { v: this.Value.v + 1 } }
+job all Gun key this.Gun.rank { set this Gun { power: this.Gun.power, rank: this.Gun.rank + 100 } }
+job key 0 { create x add x Link { to: entity(x) } add x Value { v: 1 } destroy x }
+job all Link key at(this.Link.to).Value.v or 0 { destroy at(this.Link.to) remove this Link }
+job key 0 { create a create b create c create d create e create f create g create h }";
+
+const REFUSED_JOBS: &str = "U job all ^Nope key 0 { }
+F job key ^1.5 { }
+F job key this.^Value.v { }
+M job ^all Gun none Gun key 0 { }
+U job key 0 { destroy ^x create x }
+N job key 0 { create x create ^x }
+U job key 0 { remove this ^Nope }
+U job key 0 { add this ^Nope { } }
+F job key 0 { add this Value { ^} }
+F job key 0 { create x add x Value { v: ^x } }
+U job key 0 { add this Link { to: entity(^x) } }
+F job all Gun key 0 { destroy ^at(this.Gun.rank) }
+F job key 0 { destroy at(this.^Gun.rank) }
+M job key 0 { create a create b create c create d create e create f create g create h ^create i }";
+
 fn schema(alloc: Global) -> Option<Schema> {
     let document = Value::from_str(alloc, SCHEMA).ok()?;
     Schema::read(alloc, &document).ok()
@@ -88,6 +110,14 @@ fn schema(alloc: Global) -> Option<Schema> {
 /// The refusal of a text, or none.
 fn refusal(alloc: Global, schema: &Schema, text: &[u8]) -> Option<RuleFault> {
     match Rules::read(alloc, text, schema) {
+        Ok(_) => None,
+        Err(fault) => Some(fault),
+    }
+}
+
+/// The refusal of a text of a job, or none.
+fn job_refusal(alloc: Global, schema: &Schema, text: &[u8]) -> Option<RuleFault> {
+    match Job::read(alloc, text, schema) {
         Ok(_) => None,
         Err(fault) => Some(fault),
     }
@@ -116,8 +146,8 @@ fn kind_of(letter: u8) -> RuleKind {
     }
 }
 
-/// Whether the text of a line of `REFUSED` is refused as it says.
-fn is_refused(alloc: Global, schema: &Schema, line: &[u8]) -> bool {
+/// Whether the text of a line, which is a job or isn't, is refused as it says.
+fn is_refused(alloc: Global, schema: &Schema, line: &[u8], is_job: bool) -> bool {
     match line {
         [letter, b' ', part @ ..] => {
             let mark = part.iter().position(|byte| *byte == b'^').unwrap_or(0);
@@ -126,7 +156,14 @@ fn is_refused(alloc: Global, schema: &Schema, line: &[u8]) -> bool {
                 kind: kind_of(*letter),
             };
             match unmarked(alloc, part) {
-                Ok(text) => refusal(alloc, schema, text.as_slice()) == Some(wanted),
+                Ok(text) => {
+                    let found = if is_job {
+                        job_refusal(alloc, schema, text.as_slice())
+                    } else {
+                        refusal(alloc, schema, text.as_slice())
+                    };
+                    found == Some(wanted)
+                }
                 Err(_) => false,
             }
         }
@@ -153,11 +190,73 @@ fn first_not_refused(alloc: Global) -> Option<&'static str> {
         return Some("no schema");
     };
     for line in REFUSED.lines() {
-        if !is_refused(alloc, &schema, line.as_bytes()) {
+        if !is_refused(alloc, &schema, line.as_bytes(), false) {
             return Some(line);
         }
     }
     None
+}
+
+/// The first line of `JOBS` that isn't read.
+fn first_job_not_read(alloc: Global) -> Option<&'static str> {
+    let Some(schema) = schema(alloc) else {
+        return Some("no schema");
+    };
+    for line in JOBS.lines() {
+        if job_refusal(alloc, &schema, line.as_bytes()).is_some() {
+            return Some(line);
+        }
+    }
+    None
+}
+
+/// The first line of `REFUSED_JOBS` that isn't refused as it says.
+fn first_job_not_refused(alloc: Global) -> Option<&'static str> {
+    let Some(schema) = schema(alloc) else {
+        return Some("no schema");
+    };
+    for line in REFUSED_JOBS.lines() {
+        if !is_refused(alloc, &schema, line.as_bytes(), true) {
+            return Some(line);
+        }
+    }
+    None
+}
+
+/// Whether the text of each line of `READ` is printed as one that is read again.
+fn first_not_again(alloc: Global) -> Option<&'static str> {
+    let Some(schema) = schema(alloc) else {
+        return Some("no schema");
+    };
+    for line in READ.lines() {
+        if !is_read_again(alloc, &schema, line.as_bytes()) {
+            return Some(line);
+        }
+    }
+    None
+}
+
+fn is_read_again(alloc: Global, schema: &Schema, text: &[u8]) -> bool {
+    match Rules::read(alloc, text, schema) {
+        Ok(rules) => match rules_text(alloc, &rules) {
+            Ok(text) => refusal(alloc, schema, text.bytes()).is_none(),
+            Err(_) => false,
+        },
+        Err(_) => false,
+    }
+}
+
+#[test]
+fn jobs_are_read_or_refused(rt: HostRuntime) {
+    let alloc = rt.alloc();
+    assert_eq!(rt; first_job_not_read(alloc), None);
+    assert_eq!(rt; first_job_not_refused(alloc), None);
+}
+
+#[test]
+fn rules_are_printed_and_read_again(rt: HostRuntime) {
+    let alloc = rt.alloc();
+    assert_eq!(rt; first_not_again(alloc), None);
 }
 
 #[test]
