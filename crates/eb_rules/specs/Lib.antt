@@ -1,0 +1,7 @@
+-- What the contracts of this crate say.
+pub mod Shapes
+pub mod Scopes
+pub mod Typing
+pub mod Statements
+pub mod Queries
+pub mod Jobs

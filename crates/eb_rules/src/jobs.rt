@@ -1,0 +1,96 @@
+// Jobs of a text.
+ghost use Rattle.std.specs.Prelude.{◌≡◌, MatchResult, Ok, Err, Some, [], drop};
+ghost use Rattle.eb_rules.specs.Jobs as spec;
+ghost use Rattle.eb_rules.specs.Statements.{Stops, fitted};
+ghost use Rattle.eb_rules.specs.Typing as typing;
+
+use crate::commands::{commands_typed, job_scope};
+use crate::faults::{Refusal, RuleFault, RuleKind};
+use crate::fields::{past, refused};
+use crate::queries::{Query3, query_typed};
+use crate::rules::{of_text, of_walk};
+use crate::shapes::{Shape, same_shape};
+use crate::typing::typed;
+use crate::walking::WalkError;
+use eb_base::TypeNo;
+use eb_rule_text::{Expr, JobTree, read_job};
+use eb_schema::Schema;
+use std::alloc::Global;
+
+/// A job: a tree whose names are there and whose types fit, and the types of its query.
+#[derive(Drop)]
+pub struct Job {
+    tree: JobTree,
+    query: Query3,
+}
+
+// The key, which is a whole number.
+fn key_typed<'p>(
+    schema: &Schema,
+    all: &[TypeNo],
+    key: &Expr,
+    places: &'p [usize],
+) -> Result<&'p [usize], Refusal>
+    ensures { MatchResult result (λ q. fitted (Some Shape.Int) (typing.typed (spec.job_scope schema.now all.now []) key.now places.now) places.now ≡ Ok q.now) (λ x. fitted (Some Shape.Int) (typing.typed (spec.job_scope schema.now all.now []) key.now places.now) places.now ≡ Err x) }
+{
+    let (shape, rest) = typed(&job_scope(schema, all, &[]), key, places)?;
+    if same_shape(Shape::Int, shape) {
+        Ok(rest)
+    } else {
+        Err(refused(RuleKind::TypeFault, places))
+    }
+}
+
+// The types of the query of a job whose names and types fit.
+fn job_typed(
+    alloc: Global,
+    schema: &Schema,
+    tree: &JobTree,
+    places: &[usize],
+) -> Result<Query3, WalkError>
+    ensures { MatchResult result (λ q. spec.job_typed schema.now tree.now places.now ≡ Ok (spec.job_made tree.now q)) (λ e. Stops (spec.job_typed schema.now tree.now places.now) e) }
+{
+    let (query, rest) = query_typed(alloc, schema, &tree.query, past(places, 1))?;
+    let rest = key_typed(schema, query.all.items(), &tree.key, past(rest, 1))?;
+    commands_typed(
+        alloc,
+        schema,
+        query.all.items(),
+        tree.commands.as_slice(),
+        past(rest, 1),
+    )?;
+    Ok(query)
+}
+
+impl Job {
+    /// The job of a text, or the first refusal of the first pass that has one. `docs/rules.md`, "Refusals".
+    #[tactic(auto, unfolding(crate::specs::Jobs::job_of))]
+    pub fn read(alloc: Global, text: &[u8], schema: &Schema) -> Result<Self, RuleFault>
+        ensures { MatchResult result (λ j. spec.job_of schema.now text.now ≡ Ok j) (λ e. spec.TellsJob (spec.job_of schema.now text.now) e) }
+    {
+        match read_job(alloc, text) {
+            Err(e) => Err(of_text(e)),
+            Ok(placed) => match job_typed(alloc, schema, &placed.tree, placed.places.items()) {
+                Err(e) => Err(of_walk(e)),
+                Ok(query) => Ok(Job {
+                    tree: placed.tree,
+                    query,
+                }),
+            },
+        }
+    }
+
+    /// The types of the job's query. Takes no memory.
+    pub fn query(&self) -> &Query3
+        ensures { result.now ≡ self.now.query }
+    {
+        &self.query
+    }
+
+    /// The tree of the job. Takes no memory.
+    pub fn tree(&self) -> &JobTree
+        ensures { result.now ≡ self.now.tree }
+    {
+        &self.tree
+    }
+}

@@ -1,0 +1,67 @@
+// What a walk over statements has come to.
+use crate::faults::Refusal;
+use crate::scopes::Visible;
+use eb_base::{Items, Memory, TypeNo};
+use eb_schema::{Field, Schema};
+use std::marker::Model;
+
+/// Why a walk over statements stops.
+#[derive(Clone, Copy, Debug, PartialEq, Eq)]
+pub enum WalkError {
+    /// Want of memory.
+    Memory,
+    Refused(Refusal),
+}
+
+impl From<Memory> for WalkError {
+    ghost use Rattle.std.specs.Prelude.{◌≡◌};
+    ghost use Rattle.eb_rules.specs.declared.walking.WalkError.TheVariants.{Memory};
+
+    ghost from_gives = { λ _ e. e ≡ Memory };
+
+    fn from(_: Memory) -> WalkError {
+        WalkError::Memory
+    }
+}
+
+impl From<Refusal> for WalkError {
+    ghost use Rattle.std.specs.Prelude.{◌≡◌};
+    ghost use Rattle.eb_rules.specs.declared.walking.WalkError.TheVariants.{Refused};
+
+    ghost from_gives = { λ x e. e ≡ Refused x };
+
+    fn from(refusal: Refusal) -> WalkError {
+        WalkError::Refused(refusal)
+    }
+}
+
+/// What a walk over the statements of one baker or system has come to.
+#[derive(Debug, Drop)]
+pub struct State {
+    /// The visible names.
+    pub known: Items<Visible>,
+    /// The different types that were added to the object's own entity.
+    pub types: Items<TypeNo>,
+    /// How many extras there were.
+    pub extras: usize,
+}
+
+/// What stays the same on a walk.
+#[derive(Drop)]
+pub struct Ground<'a> {
+    pub schema: &'a Schema,
+    /// The fields of the baker's own authoring type; none in systems.
+    pub own: &'a [Field],
+    /// The types in the list `all` of a system's query; none in bakers.
+    pub all: &'a [TypeNo],
+    /// Whether this is a baker, whose entities have at most 32 types.
+    pub is_baker: bool,
+}
+
+impl<'a> Model for Ground<'a> {
+    ghost use Rattle.eb_rules.specs.Statements.{Fixed};
+
+    ghost Value = { Fixed };
+
+    ghost view = { λ g. record { types = g.schema.now; own = g.own.now; all = g.all.now; baker = g.is_baker } };
+}
