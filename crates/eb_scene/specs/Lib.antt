@@ -1,0 +1,4 @@
+pub mod Numbers
+pub mod Projects
+pub mod Answers
+pub mod Tables

@@ -1,0 +1,19 @@
+//! The project of a level builder: scenes of objects with components, assets, and the edits that change them.
+#![tactic(auto)]
+
+mod assets;
+mod below;
+pub mod edits;
+pub mod keys;
+mod numbers;
+pub mod objects;
+mod parts;
+pub mod projects;
+mod scenes;
+mod table;
+mod tree;
+
+pub use edits::{Edit, EditFault, Raw, RawField};
+pub use keys::Key;
+pub use objects::{Given, Object, Part};
+pub use projects::Project;

@@ -1,0 +1,142 @@
+// The project: what can be asked of it.
+ghost use Rattle.std.specs.Prelude.{◌≡◌, [], is_some, option_map};
+ghost use Rattle.std.specs.Option.{option_copied};
+ghost use Rattle.std.specs.Map.{keys_of};
+ghost use Rattle.eb_scene.specs.declared.keys.Key.TheVariants as key;
+ghost use Rattle.eb_scene.specs.Projects.{numbered, objects_of, object_in, part_in, section_in};
+ghost use Rattle.eb_scene.specs.Answers.{answer, Values, Above, Below, There};
+
+use crate::assets::Assets;
+use crate::objects::{Given, Object, Part};
+use crate::parts::part_of;
+use crate::scenes::Scene;
+use crate::tree::section;
+use eb_base::AuthorNo;
+use eb_schema::Schema;
+use std::alloc::Global;
+use std::collections::BTreeMap;
+use std::marker::Model;
+
+/// A project: a schema, scenes and assets. Contracts see these, all under their numbers in ascending order.
+#[derive(Drop)]
+pub struct Project {
+    schema: Schema,
+    scenes: BTreeMap<u8, Scene>,
+    assets: Assets,
+    alloc: Global,
+}
+
+impl Model for Project {
+    ghost use Rattle.eb_scene.specs.Projects.{Content};
+
+    ghost Value = { Content };
+
+    ghost view = { λ p. record { schema = p.schema; scenes = p.scenes.entries; assets = p.assets } };
+}
+
+impl Project {
+    /// The project of this schema without scenes and assets. Takes no memory; `alloc` is what its edits take theirs of.
+    pub fn open(alloc: Global, schema: Schema) -> Self
+        ensures { result ≡ record { schema = schema; scenes = []; assets = [] } }
+    {
+        Project {
+            schema,
+            scenes: BTreeMap::new(alloc),
+            assets: Assets::new(alloc),
+            alloc,
+        }
+    }
+
+    /// The schema. Takes no memory.
+    pub fn schema(&self) -> &Schema
+        ensures { result.now ≡ self.now.schema }
+    {
+        &self.schema
+    }
+
+    /// Whether a scene is there. Takes no memory.
+    pub fn has_scene(&self, scene: u8) -> bool
+        ensures { result ≡ is_some (numbered self.now.scenes scene) }
+    {
+        self.scenes.get(&scene).is_some()
+    }
+
+    /// The numbers of the objects of a scene, ascending; none where the scene isn't there. Takes no memory.
+    pub fn objects(&self, scene: u8) -> &[u32]
+        ensures { result.now ≡ keys_of (objects_of self.now scene) }
+    {
+        match self.scenes.get(&scene) {
+            Some(scene) => scene.numbers(),
+            None => &[],
+        }
+    }
+
+    /// An object; none exactly where it isn't in the scene. Takes no memory.
+    pub fn object(&self, scene: u8, object: u32) -> Option<&Object>
+        ensures object { option_copied result ≡ object_in self.now scene object }
+        ensures answer { answer self.now (key.Exists scene object) ≡ There (is_some result) }
+    {
+        match self.scenes.get(&scene) {
+            Some(scene) => scene.get(object),
+            None => None,
+        }
+    }
+
+    /// The parent of an object; none exactly where it has none or isn't there. Takes no memory.
+    pub fn parent(&self, scene: u8, object: u32) -> Option<u32>
+        ensures { answer self.now (key.Parent scene object) ≡ Above result }
+    {
+        match self.scenes.get(&scene) {
+            Some(scene) => scene.parent(object),
+            None => None,
+        }
+    }
+
+    /// The numbers of the objects right below one, ascending; none where it isn't there. Takes no memory.
+    pub fn children(&self, scene: u8, object: u32) -> &[u32]
+        ensures { answer self.now (key.Children scene object) ≡ Below result.now }
+    {
+        match self.scenes.get(&scene) {
+            Some(scene) => scene.children(object),
+            None => &[],
+        }
+    }
+
+    /// A component; none exactly where the object has none of the type or isn't there. Takes no memory.
+    pub fn component(&self, scene: u8, object: u32, kind: AuthorNo) -> Option<&Part>
+        ensures part { option_copied result ≡ part_in self.now scene object kind }
+        ensures answer { answer self.now (key.Comp scene object kind) ≡ Values (option_map (λ p. p.now.values) result) }
+    {
+        match self.object(scene, object) {
+            Some(object) => part_of(object.components.items(), kind),
+            None => None,
+        }
+    }
+
+    /// The section of an object, that of the nearest mark upward, itself first, or else 0; none exactly where the
+    /// object isn't there. Takes no memory.
+    pub fn section_of(&self, scene: u8, object: u32) -> Option<u8>
+        ensures { result ≡ section_in self.now scene object }
+    {
+        let scene = self.scenes.get(&scene)?;
+        if scene.has(object) {
+            Some(section(scene, object))
+        } else {
+            None
+        }
+    }
+
+    /// The values of an asset; none exactly where it isn't there. Takes no memory.
+    pub fn asset(&self, asset: u32) -> Option<&[Given]>
+        ensures { answer self.now (key.Asset asset) ≡ Values (option_copied result) }
+    {
+        self.assets.get(asset)
+    }
+
+    /// The numbers of the assets, ascending. Takes no memory.
+    pub fn assets(&self) -> &[u32]
+        ensures { result.now ≡ keys_of self.now.assets }
+    {
+        self.assets.numbers()
+    }
+}

@@ -1,0 +1,100 @@
+// A scene: its objects, the children of each, and the list of all numbers.
+ghost use Rattle.std.specs.Prelude.{◌≡◌, ℕ, [], OnOk, OnErr, IfNone, is_some, length, Some, None};
+ghost use Rattle.std.specs.Option.{option_copied};
+ghost use Rattle.std.specs.Map.{keys_of};
+ghost use Rattle.std.specs.Ordering.{nat_cmp};
+ghost use Rattle.std.specs.List.Sorted.{IsStrictlySortedBy};
+ghost use Rattle.eb_scene.specs.Projects.{numbered, parent_at, mark_at, children_of, above, first_mark, section};
+ghost use Rattle.eb_scene.specs.Tables.{with_numbered, without_numbered};
+
+use crate::below::Below;
+use crate::numbers::Numbers;
+use crate::objects::Object;
+use crate::table::Table;
+use eb_base::Memory;
+use std::alloc::Global;
+use std::marker::Model;
+
+/// A scene. Contracts see its objects under their numbers, in ascending order.
+#[derive(Drop)]
+pub struct Scene {
+    objects: Table,
+    below: Below,
+    numbers: Numbers,
+    alloc: Global,
+}
+
+impl Model for Scene {
+    ghost use Rattle.eb_scene.specs.Projects.{Objects};
+    ghost use Rattle.eb_scene.specs.Tables.{IsIndex};
+
+    ghost Value = { Objects };
+
+    ghost view = { λ s. s.objects };
+
+    ghost invariant = { λ s. IsIndex s.objects s.below s.numbers };
+}
+
+impl Scene {
+    /// A scene without objects. Takes no memory.
+    pub fn new(alloc: Global) -> Self
+        ensures { result ≡ [] }
+    {
+        Scene {
+            objects: Table::new(alloc),
+            below: Below::new(alloc),
+            numbers: Numbers::new(alloc),
+            alloc,
+        }
+    }
+
+    /// How many objects there are. Takes no memory.
+    pub fn len(&self) -> usize
+        ensures len { result ≡ length self.now }
+        ensures order { IsStrictlySortedBy nat_cmp (keys_of self.now) }
+    {
+        self.objects.len()
+    }
+
+    /// The object of a number, if there is one. Takes no memory.
+    pub fn get(&self, number: u32) -> Option<&Object>
+        ensures { option_copied result ≡ numbered self.now number }
+    {
+        self.objects.get(number)
+    }
+
+    /// Whether there is an object of a number. Takes no memory.
+    pub fn has(&self, number: u32) -> bool
+        ensures { result ≡ is_some (numbered self.now number) }
+    {
+        self.objects.has(number)
+    }
+
+    /// The parent of an object, if it has one. Takes no memory.
+    pub fn parent(&self, number: u32) -> Option<u32>
+        ensures { result ≡ parent_at self.now number }
+    {
+        self.objects.parent(number)
+    }
+
+    /// The mark of an object, if it has one. Takes no memory.
+    pub fn mark(&self, number: u32) -> Option<u8>
+        ensures { result ≡ mark_at self.now number }
+    {
+        self.objects.mark(number)
+    }
+
+    /// The numbers of the objects right below one, ascending. Takes no memory.
+    pub fn children(&self, number: u32) -> &[u32]
+        ensures { result.now ≡ children_of self.now number }
+    {
+        self.below.at(number)
+    }
+
+    /// The numbers of all objects, ascending. Takes no memory.
+    pub fn numbers(&self) -> &[u32]
+        ensures { result.now ≡ keys_of self.now }
+    {
+        self.numbers.items()
+    }
+}
