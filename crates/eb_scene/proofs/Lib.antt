@@ -1,2 +1,5 @@
 pub mod NumberFacts
 pub mod TreeFacts
+pub mod Children
+pub mod IndexFacts
+pub mod SceneFacts

@@ -26,7 +26,7 @@ none_to_take n (k ∷ ks) h =
     let other : nat_eq k n ≡ false = grind (arith, nat_tests, h.0) in
     ap (λ b. cond b ks (k ∷ without_number ks n)) other ∙ ap (λ js. k ∷ js) (none_to_take n ks h.1)
 
-below_further : (j k : ℕ) (ks : List ℕ) → nat_cmp j k ≡ Less → IsBelow k ks → IsBelow j ks
+pub below_further : (j k : ℕ) (ks : List ℕ) → nat_cmp j k ≡ Less → IsBelow k ks → IsBelow j ks
 below_further j k [] lt h = tt
 below_further j k (l ∷ ks) lt h = (grind (arith, nat_tests, h.0), below_further j k ks lt h.1)
 

@@ -2,3 +2,5 @@ pub mod Numbers
 pub mod Projects
 pub mod Answers
 pub mod Tables
+pub mod Fits
+pub mod Edits

@@ -1,5 +1,5 @@
 // What is asked of a project: edits, with their refusals.
-use eb_base::{Items, Text};
+use eb_base::{Items, Memory, Text};
 
 /// A value as an edit writes it, before it is known for which field.
 #[derive(Clone, Copy, Debug, PartialEq, Eq)]
@@ -164,4 +164,15 @@ pub enum EditFault {
     DepthLimit,
     /// The mark is above 63.
     SectionRange,
+}
+
+impl From<Memory> for EditFault {
+    ghost use Rattle.std.specs.Prelude.{◌≡◌};
+    ghost use Rattle.eb_scene.specs.declared.edits.EditFault.TheVariants as fault;
+
+    ghost from_gives = { λ _ e. e ≡ fault.Memory };
+
+    fn from(_: Memory) -> Self {
+        EditFault::Memory
+    }
 }

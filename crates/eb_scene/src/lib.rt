@@ -9,6 +9,7 @@ mod numbers;
 pub mod objects;
 mod parts;
 pub mod projects;
+mod scene_edits;
 mod scenes;
 mod table;
 mod tree;

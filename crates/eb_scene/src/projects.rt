@@ -1,17 +1,21 @@
-// The project: what can be asked of it.
-ghost use Rattle.std.specs.Prelude.{◌≡◌, [], is_some, option_map};
+// The project: what can be asked of it, and its edits.
+ghost use Rattle.std.specs.Prelude.{◌≡◌, [], is_some, option_map, OnOk, OnErr};
 ghost use Rattle.std.specs.Option.{option_copied};
 ghost use Rattle.std.specs.Map.{keys_of};
 ghost use Rattle.eb_scene.specs.declared.keys.Key.TheVariants as key;
 ghost use Rattle.eb_scene.specs.Projects.{numbered, objects_of, object_in, part_in, section_in};
+ghost use Rattle.eb_scene.specs.Tables.{with_numbered};
+ghost use Rattle.eb_scene.specs.Edits.{Tells, scene_added, scene_removed, on_scene, object_added, section_set};
 ghost use Rattle.eb_scene.specs.Answers.{answer, Values, Above, Below, There};
 
 use crate::assets::Assets;
+use crate::edits::EditFault;
 use crate::objects::{Given, Object, Part};
 use crate::parts::part_of;
+use crate::scene_edits::{add_object, set_section};
 use crate::scenes::Scene;
 use crate::tree::section;
-use eb_base::AuthorNo;
+use eb_base::{AuthorNo, Memory};
 use eb_schema::Schema;
 use std::alloc::Global;
 use std::collections::BTreeMap;
@@ -138,5 +142,62 @@ impl Project {
         ensures { result.now ≡ keys_of self.now.assets }
     {
         self.assets.numbers()
+    }
+
+    /// Begins a scene. Where there is no memory, nothing changes.
+    fn begin_scene(&mut self, scene: u8) -> Result<(), Memory>
+        ensures ok { OnOk result (self.new ≡ record self.old { scenes = with_numbered self.old.scenes scene [] }) }
+        ensures err { OnErr result (self.new ≡ self.old) }
+    {
+        self.scenes.insert(scene, Scene::new(self.alloc))?;
+        Ok(())
+    }
+
+    /// Makes an empty scene. `SceneTaken` comes exactly where it is there.
+    pub fn add_scene(&mut self, scene: u8) -> Result<(), EditFault>
+        ensures { Tells result self.old self.new (scene_added self.old scene) }
+    {
+        if self.has_scene(scene) {
+            return Err(EditFault::SceneTaken);
+        }
+        self.begin_scene(scene)?;
+        Ok(())
+    }
+
+    /// Takes a scene away, with all that is in it. `NoScene` comes exactly where it isn't there.
+    pub fn remove_scene(&mut self, scene: u8) -> Result<(), EditFault>
+        ensures { Tells result self.old self.new (scene_removed self.old scene) }
+    {
+        if !self.has_scene(scene) {
+            return Err(EditFault::NoScene);
+        }
+        self.scenes.remove(&scene);
+        Ok(())
+    }
+
+    /// Makes an object without components.
+    pub fn add_object(
+        &mut self,
+        scene: u8,
+        object: u32,
+        parent: Option<u32>,
+        section: Option<u32>,
+    ) -> Result<(), EditFault>
+        ensures { Tells result self.old self.new (on_scene self.old scene (λ es. object_added es object parent section)) }
+    {
+        match self.scenes.get_mut(&scene) {
+            Some(found) => add_object(found, self.alloc, object, parent, section),
+            None => Err(EditFault::NoScene),
+        }
+    }
+
+    /// Gives an object a mark, or takes it away.
+    pub fn set_section(&mut self, scene: u8, object: u32, section: Option<u32>) -> Result<(), EditFault>
+        ensures { Tells result self.old self.new (on_scene self.old scene (λ es. section_set es object section)) }
+    {
+        match self.scenes.get_mut(&scene) {
+            Some(found) => set_section(found, object, section),
+            None => Err(EditFault::NoScene),
+        }
     }
 }

@@ -5,7 +5,8 @@ ghost use Rattle.std.specs.Map.{keys_of};
 ghost use Rattle.std.specs.Ordering.{nat_cmp};
 ghost use Rattle.std.specs.List.Sorted.{IsStrictlySortedBy};
 ghost use Rattle.eb_scene.specs.Projects.{numbered, parent_at, mark_at, children_of, above, first_mark, section};
-ghost use Rattle.eb_scene.specs.Tables.{with_numbered, without_numbered};
+ghost use Rattle.eb_scene.specs.Tables.{with_numbered, without_numbered, changed};
+ghost use Rattle.eb_scene.specs.Edits.{marked};
 
 use crate::below::Below;
 use crate::numbers::Numbers;
@@ -96,5 +97,50 @@ impl Scene {
         ensures { result.now ≡ keys_of self.now }
     {
         self.numbers.items()
+    }
+
+    /// Puts an object under a new number. Where there is no memory, nothing changes.
+    pub fn put(&mut self, number: u32, object: Object) -> Result<(), Memory>
+        requires { numbered self.old number ≡ None }
+        ensures ok { OnOk result (self.new ≡ with_numbered self.old number object) }
+        ensures err { OnErr result (self.new ≡ self.old) }
+    {
+        let parent = object.parent;
+        self.numbers.add(number)?;
+        match self.below.hang(self.alloc, parent, number) {
+            Ok(()) => {}
+            Err(fault) => {
+                self.numbers.remove(number);
+                return Err(fault);
+            }
+        }
+        match self.objects.put(number, object) {
+            Ok(()) => Ok(()),
+            Err(fault) => {
+                self.below.unhang(parent, number);
+                self.numbers.remove(number);
+                Err(fault)
+            }
+        }
+    }
+
+    /// Takes the object of a number out, if there is one; those below it stay. Takes no memory.
+    pub fn take(&mut self, number: u32)
+        ensures { self.new ≡ without_numbered self.old number }
+    {
+        match self.objects.take(number) {
+            Some(object) => {
+                self.numbers.remove(number);
+                self.below.unhang(object.parent, number);
+            }
+            None => {}
+        }
+    }
+
+    /// Gives an object a mark, or takes it away. Takes no memory.
+    pub fn set_mark(&mut self, number: u32, mark: Option<u8>)
+        ensures { self.new ≡ changed (marked mark) self.old number }
+    {
+        self.objects.set_mark(number, mark);
     }
 }

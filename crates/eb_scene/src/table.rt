@@ -4,8 +4,9 @@ ghost use Rattle.std.specs.Option.{option_copied};
 ghost use Rattle.std.specs.Map.{keys_of};
 ghost use Rattle.std.specs.List.Sorted.{IsStrictlySortedBy};
 ghost use Rattle.std.specs.Ordering.{nat_cmp};
-ghost use Rattle.eb_scene.specs.Projects.{numbered, parent_at, mark_at, children_of};
-ghost use Rattle.eb_scene.specs.Tables.{with_numbered, without_numbered};
+ghost use Rattle.eb_scene.specs.Projects.{numbered, parent_at, mark_at};
+ghost use Rattle.eb_scene.specs.Tables.{with_numbered, without_numbered, changed};
+ghost use Rattle.eb_scene.specs.Edits.{marked};
 
 use crate::objects::Object;
 use eb_base::Memory;
@@ -96,5 +97,15 @@ impl Table {
         ensures same { IfNone result (self.new ≡ self.old) }
     {
         self.objects.remove(&number)
+    }
+
+    /// Gives an object a mark, or takes it away. Takes no memory.
+    pub fn set_mark(&mut self, number: u32, mark: Option<u8>)
+        ensures { self.new ≡ changed (marked mark) self.old number }
+    {
+        match self.objects.get_mut(&number) {
+            Some(object) => object.mark = mark,
+            None => {}
+        }
     }
 }

@@ -1,0 +1,102 @@
+-- Which values fit which fields.
+use Rattle.std.specs.Prelude.{ℕ, suc, ◌+◌, ◌^◌, Bool, cond, not, ◌&&◌, nat_lt, nat_le, ℤ, pos, negsuc, ◌*ℤ◌, List, [], ◌∷◌, Option, Some, None, option_map, is_some, Result, Ok, Err, bytes_eq, find, if◌then◌else◌}
+use Rattle.std.specs.List.{list_any}
+use Rattle.eb_base.specs.Arithmetic.{fits_i64}
+use Rattle.eb_schema.specs.declared.kinds.Kind.{Kind}
+use Rattle.eb_schema.specs.declared.kinds.Kind.TheVariants.{I8, I16, I32, I64, Fix, Ref, Asset}
+use Rattle.eb_schema.specs.declared.kinds.Field.{Field}
+use Rattle.eb_scene.specs.declared.objects.Given.{Given}
+use Rattle.eb_scene.specs.declared.objects.Given.TheVariants as given
+use Rattle.eb_scene.specs.declared.edits.Raw.{Raw}
+use Rattle.eb_scene.specs.declared.edits.Raw.TheVariants.{Int, Units, Null}
+use Rattle.eb_scene.specs.declared.edits.RawField.{RawField}
+use Rattle.eb_scene.specs.declared.edits.EditFault.{EditFault}
+use Rattle.eb_scene.specs.declared.edits.EditFault.TheVariants.{NoField, BadValue}
+
+-- from -bound to bound - 1
+abbrev pub within : ℕ → ℤ → Bool
+within bound (pos n) = nat_lt n bound
+within bound (negsuc n) = nat_lt n bound
+
+-- from 1 to 2^32 - 1
+abbrev pub is_number : ℤ → Bool
+is_number (pos n) = nat_lt 0 n && nat_lt n (2 ^ 32)
+is_number (negsuc n) = nat_lt 1 0
+
+-- the whole number that is no less than 0
+abbrev pub size : ℤ → ℕ
+size (pos n) = n
+size (negsuc n) = 0
+
+-- a whole number in a field
+abbrev pub whole : Kind → ℤ → Option Given
+whole I8 z = cond (within (2 ^ 7) z) (Some (given.Num z)) None
+whole I16 z = cond (within (2 ^ 15) z) (Some (given.Num z)) None
+whole I32 z = cond (within (2 ^ 31) z) (Some (given.Num z)) None
+whole I64 z = Some (given.Num z)
+whole Fix z = cond (fits_i64 (z *ℤ pos 65536)) (Some (given.Num (z *ℤ pos 65536))) None
+whole Ref z = cond (is_number z) (Some (given.Object (size z))) None
+whole Asset z = cond (is_number z) (Some (given.Asset (size z))) None
+
+-- fixed units in a field
+abbrev pub units : Kind → ℤ → Option Given
+units Fix z = Some (given.Num z)
+units I8 z = None
+units I16 z = None
+units I32 z = None
+units I64 z = None
+units Ref z = None
+units Asset z = None
+
+-- null in a field
+abbrev pub nothing : Kind → Option Given
+nothing Ref = Some given.Null
+nothing Asset = Some given.Null
+nothing I8 = None
+nothing I16 = None
+nothing I32 = None
+nothing I64 = None
+nothing Fix = None
+
+-- a value in a field, none where it doesn't fit
+abbrev pub fitting : Kind → Raw → Option Given
+fitting kind (Int z) = whole kind z
+fitting kind (Units z) = units kind z
+fitting kind Null = nothing kind
+
+-- the value of a field that isn't named
+abbrev pub blank : Kind → Given
+blank I8 = given.Num (pos 0)
+blank I16 = given.Num (pos 0)
+blank I32 = given.Num (pos 0)
+blank I64 = given.Num (pos 0)
+blank Fix = given.Num (pos 0)
+blank Ref = given.Null
+blank Asset = given.Null
+
+-- the value that is written for a name, the first one
+abbrev pub written : List RawField → List ℕ → Option Raw
+written raws name = option_map (λ r. r.value) (find (λ r. bytes_eq name r.name) raws)
+
+abbrev pub value_of : Kind → Option Raw → Option Given
+value_of kind None = Some (blank kind)
+value_of kind (Some raw) = fitting kind raw
+
+-- a value before others, or the refusal of the field at this place
+abbrev pub before : ℕ → Option Given → Result (List Given) EditFault → Result (List Given) EditFault
+before index None rest = Err (BadValue index)
+before index (Some value) (Ok values) = Ok (value ∷ values)
+before index (Some value) (Err e) = Err e
+
+-- the values of fields from this place on, or the refusal of the first one that its value doesn't fit
+abbrev pub values_from : ℕ → List Field → List RawField → Result (List Given) EditFault
+values_from index [] raws = Ok []
+values_from index (f ∷ fs) raws = before index (value_of f.kind (written raws f.name)) (values_from (index + 1) fs raws)
+
+-- whether a field has the name
+abbrev pub has_field : List Field → List ℕ → Bool
+has_field fields name = list_any (λ f. bytes_eq name f.name) fields
+
+-- the values of all fields: each written name is that of a field, and each value fits
+abbrev pub fitted : List Field → List RawField → Result (List Given) EditFault
+fitted fields raws = if list_any (λ r. not (has_field fields r.name)) raws then Err NoField else values_from 0 fields raws
