@@ -7,7 +7,8 @@ use Rattle.std.proofs.lemmas.Map.Steps.{set_value_same}
 use Rattle.eb_scene.specs.declared.edits.EditFault.{EditFault}
 use Rattle.eb_scene.specs.declared.edits.EditFault.TheVariants as fault
 use Rattle.eb_scene.specs.Projects.{Content, Numbered, Objects, numbered}
-use Rattle.eb_scene.specs.Edits.{Refuses, Tells, put_scene, on_scene, on_scene_at}
+use Rattle.eb_scene.specs.Fits.{Refuses}
+use Rattle.eb_scene.specs.Edits.{Tells, put_scene, on_scene, on_scene_at}
 
 -- a refusal that is passed on by f stays one
 pub refuses_on : {S T : Type 0} (f : Result S EditFault → Result T EditFault) → ((e : EditFault) → f (Err e) ≡ Err e) → (e : EditFault) (r : Result S EditFault) → Refuses e r → Refuses e (f r)

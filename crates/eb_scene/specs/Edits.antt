@@ -6,15 +6,11 @@ use Rattle.std.specs.Ordering.{nat_cmp}
 use Rattle.eb_scene.specs.declared.objects.Object.{Object}
 use Rattle.eb_scene.specs.declared.edits.EditFault.{EditFault}
 use Rattle.eb_scene.specs.declared.edits.EditFault.TheVariants as fault
+use Rattle.eb_scene.specs.Fits.{Refuses}
 use Rattle.eb_scene.specs.Projects.{Content, Numbered, numbered, Objects, above, most_depth}
 use Rattle.eb_scene.specs.Tables.{with_numbered, without_numbered, changed}
 
 -- ---- what a call tells
-
--- want of memory says nothing, and any other refusal is the one that is wanted
-abbrev pub Refuses : {S : Type 0} → EditFault → Result S EditFault → Type 0
-Refuses fault.Memory want = Unit {0}
-Refuses e want = want ≡ Err e
 
 -- the state that is wanted, or the refusal, which changes nothing
 abbrev pub Tells : {S T : Type 0} → Result T EditFault → S → S → Result S EditFault → Type 0

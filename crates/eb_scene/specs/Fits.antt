@@ -1,5 +1,5 @@
 -- Which values fit which fields.
-use Rattle.std.specs.Prelude.{ℕ, suc, ◌+◌, ◌^◌, Bool, cond, not, ◌&&◌, nat_lt, nat_le, ℤ, pos, negsuc, ◌*ℤ◌, List, [], ◌∷◌, Option, Some, None, option_map, is_some, Result, Ok, Err, bytes_eq, find, if◌then◌else◌}
+use Rattle.std.specs.Prelude.{◌≡◌, ℕ, ◌+◌, ◌++◌, Bool, cond, not, ◌&&◌, int_le, ℤ, pos, negsuc, ◌*ℤ◌, List, [], ◌∷◌, Option, Some, None, option_map, Result, Ok, Err, bytes_eq, find, if◌then◌else◌}
 use Rattle.std.specs.List.{list_any}
 use Rattle.eb_base.specs.Arithmetic.{fits_i64}
 use Rattle.eb_schema.specs.declared.kinds.Kind.{Kind}
@@ -11,17 +11,15 @@ use Rattle.eb_scene.specs.declared.edits.Raw.{Raw}
 use Rattle.eb_scene.specs.declared.edits.Raw.TheVariants.{Int, Units, Null}
 use Rattle.eb_scene.specs.declared.edits.RawField.{RawField}
 use Rattle.eb_scene.specs.declared.edits.EditFault.{EditFault}
-use Rattle.eb_scene.specs.declared.edits.EditFault.TheVariants.{NoField, BadValue}
+use Rattle.eb_scene.specs.declared.edits.EditFault.TheVariants.{Memory, NoField, BadValue}
 
--- from -bound to bound - 1
-abbrev pub within : ℕ → ℤ → Bool
-within bound (pos n) = nat_lt n bound
-within bound (negsuc n) = nat_lt n bound
+-- from least to most
+abbrev pub lies : ℤ → ℤ → ℤ → Bool
+lies least most z = int_le least z && int_le z most
 
--- from 1 to 2^32 - 1
+-- whether a whole number may be that of an object or an asset
 abbrev pub is_number : ℤ → Bool
-is_number (pos n) = nat_lt 0 n && nat_lt n (2 ^ 32)
-is_number (negsuc n) = nat_lt 1 0
+is_number z = lies (pos 1) (pos 4294967295) z
 
 -- the whole number that is no less than 0
 abbrev pub size : ℤ → ℕ
@@ -30,9 +28,9 @@ size (negsuc n) = 0
 
 -- a whole number in a field
 abbrev pub whole : Kind → ℤ → Option Given
-whole I8 z = cond (within (2 ^ 7) z) (Some (given.Num z)) None
-whole I16 z = cond (within (2 ^ 15) z) (Some (given.Num z)) None
-whole I32 z = cond (within (2 ^ 31) z) (Some (given.Num z)) None
+whole I8 z = cond (lies (negsuc 127) (pos 127) z) (Some (given.Num z)) None
+whole I16 z = cond (lies (negsuc 32767) (pos 32767) z) (Some (given.Num z)) None
+whole I32 z = cond (lies (negsuc 2147483647) (pos 2147483647) z) (Some (given.Num z)) None
 whole I64 z = Some (given.Num z)
 whole Fix z = cond (fits_i64 (z *ℤ pos 65536)) (Some (given.Num (z *ℤ pos 65536))) None
 whole Ref z = cond (is_number z) (Some (given.Object (size z))) None
@@ -100,3 +98,20 @@ has_field fields name = list_any (λ f. bytes_eq name f.name) fields
 -- the values of all fields: each written name is that of a field, and each value fits
 abbrev pub fitted : List Field → List RawField → Result (List Given) EditFault
 fitted fields raws = if list_any (λ r. not (has_field fields r.name)) raws then Err NoField else values_from 0 fields raws
+
+-- ---- what a call gives
+
+-- want of memory says nothing, and any other refusal is the one that is wanted
+abbrev pub Refuses : {S : Type 0} → EditFault → Result S EditFault → Type 0
+Refuses Memory want = Unit {0}
+Refuses e want = want ≡ Err e
+
+-- the value or the refusal that is wanted
+abbrev pub Gives : {S : Type 0} → Result S EditFault → Result S EditFault → Type 0
+Gives (Ok value) want = want ≡ Ok value
+Gives (Err e) want = Refuses e want
+
+-- these values and then those, or the refusal
+abbrev pub after : List Given → Result (List Given) EditFault → Result (List Given) EditFault
+after first (Ok values) = Ok (first ++ values)
+after first (Err e) = Err e

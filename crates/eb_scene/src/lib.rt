@@ -5,6 +5,7 @@ mod assets;
 mod below;
 pub mod edits;
 pub mod keys;
+mod fits;
 mod numbers;
 pub mod objects;
 mod parts;
