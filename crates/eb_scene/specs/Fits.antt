@@ -99,6 +99,25 @@ has_field fields name = list_any (λ f. bytes_eq name f.name) fields
 abbrev pub fitted : List Field → List RawField → Result (List Given) EditFault
 fitted fields raws = if list_any (λ r. not (has_field fields r.name)) raws then Err NoField else values_from 0 fields raws
 
+-- ---- one field
+
+-- the place and the kind of the field of a name, counted from this place on
+abbrev pub place_from : ℕ → List Field → List ℕ → Option (ℕ × Kind)
+place_from index [] name = None
+place_from index (f ∷ fs) name = cond (bytes_eq name f.name) (Some (index, f.kind)) (place_from (index + 1) fs name)
+
+abbrev pub placed : ℕ → Option Given → Result (ℕ × Given) EditFault
+placed index None = Err (BadValue index)
+placed index (Some value) = Ok (index, value)
+
+abbrev pub fitted_at : Option (ℕ × Kind) → Raw → Result (ℕ × Given) EditFault
+fitted_at None raw = Err NoField
+fitted_at (Some p) raw = placed p.0 (fitting p.1 raw)
+
+-- the place of the field of a name, and its value
+abbrev pub field_fitted : List Field → List ℕ → Raw → Result (ℕ × Given) EditFault
+field_fitted fields name raw = fitted_at (place_from 0 fields name) raw
+
 -- ---- what a call gives
 
 -- want of memory says nothing, and any other refusal is the one that is wanted

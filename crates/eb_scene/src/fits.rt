@@ -3,7 +3,7 @@ ghost use Rattle.std.specs.Prelude.{◌≡◌, cond, not, pos, ℤ, Some, None};
 ghost use Rattle.std.specs.List.{list_any};
 ghost use Rattle.eb_scene.specs.declared.objects.Given.TheVariants as given;
 ghost use Rattle.eb_schema.specs.declared.kinds.Kind.TheVariants.{Fix};
-ghost use Rattle.eb_scene.specs.Fits.{lies, is_number, size, whole, units, nothing, fitting, blank, written, value_of, values_from, has_field, fitted, Gives};
+ghost use Rattle.eb_scene.specs.Fits.{lies, is_number, size, whole, units, nothing, fitting, blank, written, value_of, values_from, has_field, fitted, place_from, field_fitted, Gives};
 
 use crate::edits::{EditFault, Raw, RawField};
 use crate::objects::Given;
@@ -177,4 +177,32 @@ pub fn fitted(alloc: Global, fields: &[Field], raws: &[RawField]) -> Result<Item
     }
     let values = values(alloc, fields, raws)?;
     Ok(values)
+}
+
+/// The place and the kind of the field of a name.
+fn place_of(fields: &[Field], name: &[u8]) -> Option<(usize, Kind)>
+    ensures place { result ≡ place_from 0 fields.now name.now }
+{
+    let mut index = 0;
+    for field in fields {
+        if name == field.name.bytes() {
+            return Some((index, field.kind));
+        }
+        index += 1;
+    }
+    None
+}
+
+/// The place of the field of a name, and its value. `NoField` comes where there is none, and then `BadValue` where
+/// the value doesn't fit.
+pub fn field_fitted(fields: &[Field], name: &[u8], raw: Raw) -> Result<(usize, Given), EditFault>
+    ensures { result ≡ field_fitted fields.now name.now raw }
+{
+    match place_of(fields, name) {
+        Some((index, kind)) => match fitting(kind, raw) {
+            Some(value) => Ok((index, value)),
+            None => Err(EditFault::BadValue { index }),
+        },
+        None => Err(EditFault::NoField),
+    }
 }

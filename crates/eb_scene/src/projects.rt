@@ -5,11 +5,12 @@ ghost use Rattle.std.specs.Map.{keys_of};
 ghost use Rattle.eb_scene.specs.declared.keys.Key.TheVariants as key;
 ghost use Rattle.eb_scene.specs.Projects.{numbered, objects_of, object_in, part_in, section_in};
 ghost use Rattle.eb_scene.specs.Tables.{with_numbered};
-ghost use Rattle.eb_scene.specs.Edits.{Tells, scene_added, scene_removed, on_scene, object_added, section_set};
+ghost use Rattle.eb_scene.specs.Edits.{Tells, scene_added, scene_removed, on_scene, object_added, section_set, asset_put, asset_removed, asset_field_set};
 ghost use Rattle.eb_scene.specs.Answers.{answer, Values, Above, Below, There};
 
 use crate::assets::Assets;
-use crate::edits::EditFault;
+use crate::edits::{EditFault, Raw, RawField};
+use crate::fits::{field_fitted, fitted};
 use crate::objects::{Given, Object, Part};
 use crate::parts::part_of;
 use crate::scene_edits::{add_object, set_section};
@@ -20,6 +21,9 @@ use eb_schema::Schema;
 use std::alloc::Global;
 use std::collections::BTreeMap;
 use std::marker::Model;
+
+/// Most assets of a project.
+const MOST_ASSETS: usize = 4096;
 
 /// A project: a schema, scenes and assets. Contracts see these, all under their numbers in ascending order.
 #[derive(Drop)]
@@ -199,5 +203,40 @@ impl Project {
             Some(found) => set_section(found, object, section),
             None => Err(EditFault::NoScene),
         }
+    }
+
+    /// Makes an asset, in place of the one of the number if there is one.
+    pub fn put_asset(&mut self, asset: u32, fields: &[RawField]) -> Result<(), EditFault>
+        ensures { Tells result self.old self.new (asset_put self.old asset fields.now) }
+    {
+        let values = fitted(self.alloc, self.schema.asset_fields(), fields)?;
+        if !self.assets.has(asset) && self.assets.len() >= MOST_ASSETS {
+            return Err(EditFault::AssetLimit);
+        }
+        self.assets.put(asset, values)?;
+        Ok(())
+    }
+
+    /// Takes an asset away. `NoAsset` comes exactly where it isn't there.
+    pub fn remove_asset(&mut self, asset: u32) -> Result<(), EditFault>
+        ensures { Tells result self.old self.new (asset_removed self.old asset) }
+    {
+        if !self.assets.has(asset) {
+            return Err(EditFault::NoAsset);
+        }
+        self.assets.take(asset);
+        Ok(())
+    }
+
+    /// Gives a field of an asset another value.
+    pub fn set_asset_field(&mut self, asset: u32, field: &[u8], value: Raw) -> Result<(), EditFault>
+        ensures { Tells result self.old self.new (asset_field_set self.old asset field.now value) }
+    {
+        let (place, value) = field_fitted(self.schema.asset_fields(), field, value)?;
+        if !self.assets.has(asset) {
+            return Err(EditFault::NoAsset);
+        }
+        self.assets.set_value(asset, place, value);
+        Ok(())
     }
 }
