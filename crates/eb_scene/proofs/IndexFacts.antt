@@ -1,5 +1,6 @@
 -- What is kept beside the objects of a scene stays right through each change.
-use Rattle.std.proofs.Common.{◌≡◌, ℕ, List, Bool, true, false, cond, Some, None, refl, sym, ap, ◌∙◌}
+use Rattle.std.proofs.Common.{◌≡◌, ℕ, List, Bool, true, false, cond, Some, None, Result, Ok, Err, refl, sym, ap, ◌∙◌}
+use Rattle.std.specs.Prelude.{OnOk, OnErr}
 use Rattle.std.specs.List.Sorted.{IsStrictlySortedBy}
 use Rattle.std.specs.Map.{keys_of}
 use Rattle.std.specs.Ordering.{nat_cmp}
@@ -32,6 +33,12 @@ index_alike f kept es n below all index = record {
   lists = λ p. index.lists p ∙ sym (children_changed_alike f kept es n p);
   numbers = index.numbers ∙ sym (keys_changed f es n);
 }
+
+-- the same where the change may be refused
+pub index_told : {T E : Type 0} (r : Result T E) (f : Object → Object) → ((o : Object) → (f o).parent ≡ o.parent) → (es new : Objects) (n : ℕ) (below : Numbered (List ℕ)) (all : List ℕ)
+    → OnOk r (new ≡ changed f es n) → OnErr r (new ≡ es) → IsIndex es below all → IsIndex new below all
+index_told (Ok t) f kept es new n below all ok err index = rw ok (index_alike f kept es n below all index)
+index_told (Err e) f kept es new n below all ok err index = rw err index
 
 -- ---- a number put in and taken out again
 

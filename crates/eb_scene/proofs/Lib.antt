@@ -3,3 +3,4 @@ pub mod TreeFacts
 pub mod Children
 pub mod IndexFacts
 pub mod SceneFacts
+pub mod PartFacts

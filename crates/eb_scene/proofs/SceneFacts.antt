@@ -1,5 +1,6 @@
 -- An edit of one scene is an edit of the project.
 use Rattle.std.proofs.Common.{◌≡◌, ℕ, Some, Result, Ok, Err, refl, sym, ap, ◌∙◌}
+use Rattle.std.specs.Prelude.{OnErr}
 use Rattle.std.specs.Map.{set_value}
 use Rattle.std.specs.BTreeMap.{is_at}
 use Rattle.std.specs.Ordering.{nat_cmp}
@@ -26,3 +27,8 @@ scene_told g s f (Err e) es new scenes there set told =
       ap (λ w. record g { scenes = w }) same,
       rw there (refuses_on (put_scene g s) (λ e. refl) e (f es) told.1),
     )
+
+-- what is written back after a refusal is what was there
+pub err_told : {X T E : Type 0} (r : Result T E) (es entries : Numbered X) (n : ℕ) (old new : X) → numbered es n ≡ Some old → entries ≡ set_value (is_at (nat_cmp n)) es new → OnErr r (new ≡ old) → OnErr r (entries ≡ es)
+err_told (Ok t) es entries n old new there set same = tt
+err_told (Err e) es entries n old new there set same = set ∙ ap (set_value (is_at (nat_cmp n)) es) same ∙ set_value_same (is_at (nat_cmp n)) es old there

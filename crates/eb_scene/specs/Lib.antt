@@ -2,5 +2,6 @@ pub mod Numbers
 pub mod Projects
 pub mod Answers
 pub mod Tables
+pub mod Parts
 pub mod Fits
 pub mod Edits

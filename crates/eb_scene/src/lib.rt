@@ -3,6 +3,7 @@
 
 mod assets;
 mod below;
+mod component_edits;
 pub mod edits;
 pub mod keys;
 mod fits;

@@ -6,13 +6,13 @@ ghost use Rattle.std.specs.Ordering.{nat_cmp};
 ghost use Rattle.std.specs.List.Sorted.{IsStrictlySortedBy};
 ghost use Rattle.eb_scene.specs.Projects.{numbered, parent_at, mark_at, children_of, above, first_mark, section};
 ghost use Rattle.eb_scene.specs.Tables.{with_numbered, without_numbered, changed};
-ghost use Rattle.eb_scene.specs.Edits.{marked};
+ghost use Rattle.eb_scene.specs.Edits.{marked, with_part, without_part, with_value};
 
 use crate::below::Below;
 use crate::numbers::Numbers;
-use crate::objects::Object;
+use crate::objects::{Given, Object, Part};
 use crate::table::Table;
-use eb_base::Memory;
+use eb_base::{AuthorNo, Memory};
 use std::alloc::Global;
 use std::marker::Model;
 
@@ -142,5 +142,27 @@ impl Scene {
         ensures { self.new ≡ changed (marked mark) self.old number }
     {
         self.objects.set_mark(number, mark);
+    }
+
+    /// Gives an object a component, in place of the one of its type. Where there is no memory, nothing changes.
+    pub fn put_part(&mut self, number: u32, part: Part) -> Result<(), Memory>
+        ensures ok { OnOk result (self.new ≡ changed (with_part part) self.old number) }
+        ensures err { OnErr result (self.new ≡ self.old) }
+    {
+        self.objects.put_part(number, part)
+    }
+
+    /// Takes a component of an object away. Takes no memory.
+    pub fn take_part(&mut self, number: u32, kind: AuthorNo)
+        ensures { self.new ≡ changed (without_part kind) self.old number }
+    {
+        self.objects.take_part(number, kind);
+    }
+
+    /// Gives a field of a component another value. Takes no memory.
+    pub fn set_value(&mut self, number: u32, kind: AuthorNo, place: usize, value: Given)
+        ensures { self.new ≡ changed (with_value kind place value) self.old number }
+    {
+        self.objects.set_value(self.alloc, number, kind, place, value);
     }
 }

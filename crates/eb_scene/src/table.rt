@@ -6,10 +6,11 @@ ghost use Rattle.std.specs.List.Sorted.{IsStrictlySortedBy};
 ghost use Rattle.std.specs.Ordering.{nat_cmp};
 ghost use Rattle.eb_scene.specs.Projects.{numbered, parent_at, mark_at};
 ghost use Rattle.eb_scene.specs.Tables.{with_numbered, without_numbered, changed};
-ghost use Rattle.eb_scene.specs.Edits.{marked};
+ghost use Rattle.eb_scene.specs.Edits.{marked, with_part, without_part, with_value};
 
-use crate::objects::Object;
-use eb_base::Memory;
+use crate::objects::{Given, Object, Part};
+use crate::parts::{put_part, set_value, take_part};
+use eb_base::{AuthorNo, Memory};
 use std::alloc::Global;
 use std::collections::BTreeMap;
 use std::marker::Model;
@@ -105,6 +106,37 @@ impl Table {
     {
         match self.objects.get_mut(&number) {
             Some(object) => object.mark = mark,
+            None => {}
+        }
+    }
+
+    /// Gives an object a component, in place of the one of its type. Where there is no memory, nothing changes.
+    pub fn put_part(&mut self, number: u32, part: Part) -> Result<(), Memory>
+        ensures ok { OnOk result (self.new ≡ changed (with_part part) self.old number) }
+        ensures err { OnErr result (self.new ≡ self.old) }
+    {
+        match self.objects.get_mut(&number) {
+            Some(object) => put_part(object, part),
+            None => Ok(()),
+        }
+    }
+
+    /// Takes a component of an object away. Takes no memory.
+    pub fn take_part(&mut self, number: u32, kind: AuthorNo)
+        ensures { self.new ≡ changed (without_part kind) self.old number }
+    {
+        match self.objects.get_mut(&number) {
+            Some(object) => take_part(object, kind),
+            None => {}
+        }
+    }
+
+    /// Gives a field of a component another value. Takes no memory.
+    pub fn set_value(&mut self, alloc: Global, number: u32, kind: AuthorNo, place: usize, value: Given)
+        ensures { self.new ≡ changed (with_value kind place value) self.old number }
+    {
+        match self.objects.get_mut(&number) {
+            Some(object) => set_value(object, alloc, kind, place, value),
             None => {}
         }
     }
