@@ -10,7 +10,7 @@ use Rattle.eb_schema.proofs.TypeOrderFacts.{IsBelow}
 use Rattle.eb_scene.specs.declared.objects.Object.{Object}
 use Rattle.eb_scene.specs.Numbers.{has_number, with_number, without_number}
 use Rattle.eb_scene.specs.Projects.{Objects, numbered, is_parent, children_of}
-use Rattle.eb_scene.specs.Tables.{with_numbered, without_numbered, set_found, changed}
+use Rattle.eb_scene.specs.Tables.{with_numbered, without_numbered, set_found, changed, changed_list}
 use Rattle.eb_scene.proofs.NumberFacts.{below_further}
 
 -- ---- what is below a number
@@ -179,6 +179,52 @@ keys_same {X} n (e ∷ es) w = keys_same_where (is_at (nat_cmp n) e.0) n e es w 
         → keys_of (cond t ((e.0, w) ∷ es) (e ∷ set_value (is_at (nat_cmp n)) es w)) ≡ keys_of (e ∷ es)
     keys_same_where true n e es w later = refl
     keys_same_where false n e es w later = ap (λ ks. e.0 ∷ ks) later
+
+-- the parent changes
+found_above_where : (t : Bool) (k n : ℕ) (o : Object) (e : ℕ × Object) (es : Objects) → nat_eq e.0 n ≡ t → nat_cmp k e.0 ≡ Less → cond t (Some e.1) (numbered es n) ≡ Some o
+    → (numbered es n ≡ Some o → nat_cmp n k ≡ Greater) → nat_cmp n k ≡ Greater
+found_above_where true k n o e es is less found later = grind (arith, nat_tests)
+found_above_where false k n o e es is less found later = later found
+
+found_above : (k n : ℕ) (o : Object) (es : Objects) → IsBelow k (keys_of es) → numbered es n ≡ Some o → nat_cmp n k ≡ Greater
+found_above k n o [] h found = cc
+found_above k n o (e ∷ es) h found = found_above_where (is_at (nat_cmp n) e.0) k n o e es (sym (at_is n e.0)) h.0 found (λ f. found_above k n o es h.1 f)
+
+moved_here : (bo bw : Bool) (n k : ℕ) (cs : List ℕ) → nat_eq k n ≡ true → IsBelow k cs → cond bw (k ∷ cs) cs ≡ changed_list n bo bw (cond bo (k ∷ cs) cs)
+moved_here true true n k cs h below = refl
+moved_here false false n k cs h below = refl
+moved_here true false n k cs h below = sym (ap (λ t. cond t cs (k ∷ without_number cs n)) h)
+moved_here false true n k cs h below =
+    let same : k ≡ n = grind (arith, nat_tests) in
+    ap (λ j. j ∷ cs) same ∙ sym (first_with n cs (subst (λ j. IsBelow j cs) same below))
+
+moved_later : (be bo bw : Bool) (n k : ℕ) (cs : List ℕ) → nat_eq k n ≡ false → nat_cmp n k ≡ Greater
+    → cond be (k ∷ changed_list n bo bw cs) (changed_list n bo bw cs) ≡ changed_list n bo bw (cond be (k ∷ cs) cs)
+moved_later false true true n k cs apart more = refl
+moved_later false true false n k cs apart more = refl
+moved_later false false true n k cs apart more = refl
+moved_later false false false n k cs apart more = refl
+moved_later true true true n k cs apart more = refl
+moved_later true true false n k cs apart more = sym (ap (λ t. cond t cs (k ∷ without_number cs n)) apart)
+moved_later true false true n k cs apart more = sym (ap (λ c. match_ordering c (n ∷ k ∷ cs) (n ∷ cs) (k ∷ with_number cs n)) more)
+moved_later true false false n k cs apart more = refl
+
+moved_where : (t : Bool) (n : ℕ) (o w : Object) (e : ℕ × Object) (es : Objects) (p : ℕ) → nat_eq e.0 n ≡ t → IsBelow e.0 (keys_of es) → cond t (Some e.1) (numbered es n) ≡ Some o
+    → (numbered es n ≡ Some o → children_of (set_value (is_at (nat_cmp n)) es w) p ≡ changed_list n (is_parent o.parent p) (is_parent w.parent p) (children_of es p))
+    → children_of (cond t ((e.0, w) ∷ es) (e ∷ set_value (is_at (nat_cmp n)) es w)) p ≡ changed_list n (is_parent o.parent p) (is_parent w.parent p) (children_of (e ∷ es) p)
+moved_where true n o w e es p is above found later =
+    let same : e.1 ≡ o = some_same e.1 o found in
+    subst (λ x. cond (is_parent w.parent p) (e.0 ∷ children_of es p) (children_of es p) ≡ changed_list n (is_parent x.parent p) (is_parent w.parent p) (children_of (e ∷ es) p)) same
+    (moved_here (is_parent e.1.parent p) (is_parent w.parent p) n e.0 (children_of es p) is (below_children e.0 es p above))
+moved_where false n o w e es p is above found later =
+    ap (λ ks. cond (is_parent e.1.parent p) (e.0 ∷ ks) ks) (later found)
+    ∙ moved_later (is_parent e.1.parent p) (is_parent o.parent p) (is_parent w.parent p) n e.0 (children_of es p) is (found_above e.0 n o es above found)
+
+pub children_moved : (n : ℕ) (o w : Object) (es : Objects) (p : ℕ) → IsStrictlySortedBy nat_cmp (keys_of es) → numbered es n ≡ Some o
+    → children_of (set_value (is_at (nat_cmp n)) es w) p ≡ changed_list n (is_parent o.parent p) (is_parent w.parent p) (children_of es p)
+unfolding IsStrictlySortedBy
+children_moved n o w [] p sorted found = cc
+children_moved n o w (e ∷ es) p sorted found = moved_where (is_at (nat_cmp n) e.0) n o w e es p (sym (at_is n e.0)) sorted.0 found (λ h. children_moved n o w es p sorted.1 h)
 
 -- ---- a change that keeps parents
 

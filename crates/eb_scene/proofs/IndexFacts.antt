@@ -1,14 +1,16 @@
 -- What is kept beside the objects of a scene stays right through each change.
-use Rattle.std.proofs.Common.{◌≡◌, ℕ, List, Bool, true, false, cond, Some, None, Result, Ok, Err, refl, sym, ap, ◌∙◌}
-use Rattle.std.specs.Prelude.{OnOk, OnErr}
+use Rattle.std.proofs.Common.{◌≡◌, ℕ, List, Bool, true, false, cond, Option, Some, None, Result, Ok, Err, refl, sym, ap, ◌∙◌}
+use Rattle.std.specs.Prelude.{OnOk, OnErr, is_some, option_and_then}
+use Rattle.std.specs.BTreeMap.{is_at}
 use Rattle.std.specs.List.Sorted.{IsStrictlySortedBy}
-use Rattle.std.specs.Map.{keys_of}
+use Rattle.std.specs.Map.{keys_of, set_value}
 use Rattle.std.specs.Ordering.{nat_cmp}
 use Rattle.eb_scene.specs.declared.objects.Object.{Object}
 use Rattle.eb_scene.specs.Numbers.{has_number, with_number, without_number}
-use Rattle.eb_scene.specs.Projects.{Objects, Numbered, numbered, is_parent, children_of}
-use Rattle.eb_scene.specs.Tables.{IsIndex, list_at, with_numbered, without_numbered, changed}
-use Rattle.eb_scene.proofs.Children.{children_put, keys_put, children_gone, keys_gone, children_changed_alike, keys_changed, absent_keys, absent_children, undone}
+use Rattle.eb_scene.specs.Projects.{Objects, Numbered, numbered, is_parent, parent_at, children_of}
+use Rattle.eb_scene.specs.Tables.{IsIndex, list_at, with_numbered, without_numbered, set_found, changed, changed_list}
+use Rattle.eb_scene.specs.Edits.{parented}
+use Rattle.eb_scene.proofs.Children.{children_put, keys_put, children_gone, keys_gone, children_moved, children_changed_alike, keys_changed, absent_keys, absent_children, undone}
 
 -- lists is below with a change of the list of one parent
 abbrev pub Relists : (List ℕ → List ℕ) → Object → Numbered (List ℕ) → Numbered (List ℕ) → Type 0
@@ -60,7 +62,26 @@ pub index_undone : (n : ℕ) (o : Object) (es : Objects) (below hung lists : Num
     → Relists (λ ks. with_number ks n) o below hung → Relists (λ ks. without_number ks n) o hung lists → IsIndex es lists (without_number (with_number all n) n)
 index_undone n o es below hung lists all index absent with_it without_it = record {
   lists = λ p. without_it p
-    ∙ ap (λ ks. cond (is_parent o.parent p) (without_number ks n) ks) (with_it p ∙ ap (λ ks. cond (is_parent o.parent p) (with_number ks n) ks) (index.lists p))
-    ∙ list_undone (is_parent o.parent p) n (children_of es p) (absent_children n es p absent);
+      ∙ ap (λ ks. cond (is_parent o.parent p) (without_number ks n) ks) (with_it p ∙ ap (λ ks. cond (is_parent o.parent p) (with_number ks n) ks) (index.lists p))
+      ∙ list_undone (is_parent o.parent p) n (children_of es p) (absent_children n es p absent);
   numbers = numbers_undone n es all index.numbers absent;
+}
+
+-- ---- an object put below another one
+
+moved_found : (f : Object → Object) (es : Objects) (n p : ℕ) (r : Option Object) → numbered es n ≡ r → is_some r ≡ true → IsStrictlySortedBy nat_cmp (keys_of es)
+    → ((o : Object) → numbered es n ≡ Some o → children_of (set_value (is_at (nat_cmp n)) es (f o)) p ≡ changed_list n (is_parent o.parent p) (is_parent (f o).parent p) (children_of es p))
+    → (parent : Option ℕ) → ((o : Object) → (f o).parent ≡ parent)
+    → changed_list n (is_parent (option_and_then (λ o. o.parent) r) p) (is_parent parent p) (children_of es p) ≡ children_of (set_found f es n r) p
+moved_found f es n p None is there sorted moved parent gives = cc
+moved_found f es n p (Some o) is there sorted moved parent gives =
+    ap (λ q. changed_list n (is_parent o.parent p) (is_parent q p) (children_of es p)) (sym (gives o)) ∙ sym (moved o is)
+
+pub index_moved : (n : ℕ) (parent : Option ℕ) (es : Objects) (below lists : Numbered (List ℕ)) (all : List ℕ) → IsIndex es below all → is_some (numbered es n) ≡ true → IsStrictlySortedBy nat_cmp (keys_of es)
+    → ((q : ℕ) → list_at lists q ≡ changed_list n (is_parent (parent_at es n) q) (is_parent parent q) (list_at below q))
+    → IsIndex (changed (parented parent) es n) lists all
+index_moved n parent es below lists all index there sorted rehung = record {
+  lists = λ p. rehung p ∙ ap (changed_list n (is_parent (parent_at es n) p) (is_parent parent p)) (index.lists p)
+      ∙ moved_found (parented parent) es n p (numbered es n) refl there sorted (λ o found. children_moved n o (parented parent o) es p sorted found) parent (λ o. refl);
+  numbers = index.numbers ∙ sym (keys_changed (parented parent) es n);
 }

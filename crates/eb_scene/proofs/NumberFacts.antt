@@ -1,5 +1,5 @@
 -- What taking a number out of an ascending list does.
-use Rattle.std.proofs.Common.{◌≡◌, subst, ℕ, zero, suc, ◌<◌, List, [], ◌∷◌, length, map, Bool, true, false, cond, nat_eq, Result, Ok, Err, Ordering, Less, Equal, Greater, refl, sym, ap, ◌∙◌, arith}
+use Rattle.std.proofs.Common.{◌≡◌, subst, ℕ, zero, suc, ◌<◌, List, [], ◌∷◌, length, map, Bool, true, false, cond, nat_eq, Option, Some, None, true≢false, Result, Ok, Err, Ordering, Less, Equal, Greater, refl, sym, ap, ◌∙◌, arith}
 use Rattle.std.specs.Prelude.{is_ok}
 use Rattle.std.specs.List.{insert, remove}
 use Rattle.std.specs.List.Sorted.{IsStrictlySortedBy, IsSearchInRange, IsBinarySearchResult}
@@ -8,6 +8,8 @@ use Rattle.std.proofs.lemmas.Bool.Decides.{nat_tests}
 use Rattle.eb_schema.specs.TypeOrder.{next, place_of}
 use Rattle.eb_schema.proofs.SetFacts.{map_same}
 use Rattle.eb_schema.proofs.TypeOrderFacts.{IsBelow, has_placed, put_at, put_at_place, same_with, searched, sorted_with}
+use Rattle.eb_scene.specs.Projects.{is_parent}
+use Rattle.eb_scene.specs.Tables.{changed_list}
 use Rattle.eb_scene.specs.Numbers.{has_number, with_number, without_number}
 
 -- the list without what was found
@@ -94,3 +96,24 @@ take_found ks n at sorted is = ap (λ r. taken_at r ks) is ∙ taken_at_place n 
 
 pub take_gap : (ks : List ℕ) (n at : ℕ) → IsStrictlySortedBy nat_cmp ks → Err at ≡ place_of (λ k. k) n ks → ks ≡ without_number ks n
 take_gap ks n at sorted is = ap (λ r. taken_at r ks) is ∙ taken_at_place n ks sorted
+
+-- ---- a number that goes from one list to another
+
+pub relisted_same : (b : Bool) (n : ℕ) (ks : List ℕ) → changed_list n b b ks ≡ ks
+relisted_same true n ks = refl
+relisted_same false n ks = refl
+
+relisted_where : (a b : Bool) (n : ℕ) (ks : List ℕ) → (a ≡ true → b ≡ true → ⊥) → cond a (without_number (cond b (with_number ks n) ks) n) (cond b (with_number ks n) ks) ≡ changed_list n a b ks
+relisted_where true true n ks apart = absurd (apart refl refl)
+relisted_where true false n ks apart = refl
+relisted_where false true n ks apart = refl
+relisted_where false false n ks apart = refl
+
+same_parents : (old new : Option ℕ) (q : ℕ) → is_parent old q ≡ true → is_parent new q ≡ true → old ≡ new
+same_parents None new q a b = absurd (true≢false (sym a))
+same_parents (Some o) None q a b = absurd (true≢false (sym b))
+same_parents (Some o) (Some p) q a b = let same : o ≡ p = grind (arith, nat_tests) in ap (λ k. Some k) same
+
+pub relisted : (old new : Option ℕ) (n q : ℕ) (ks : List ℕ) → (old ≡ new → ⊥)
+    → cond (is_parent old q) (without_number (cond (is_parent new q) (with_number ks n) ks) n) (cond (is_parent new q) (with_number ks n) ks) ≡ changed_list n (is_parent old q) (is_parent new q) ks
+relisted old new n q ks apart = relisted_where (is_parent old q) (is_parent new q) n ks (λ a b. apart (same_parents old new q a b))

@@ -22,8 +22,7 @@ pub scene_told : {T : Type 0} (g : Content) (s : ℕ) (f : Objects → Result Ob
 scene_told g s f (Ok t) es new scenes there set told =
     ap (on_scene_at g s f) there ∙ ap (put_scene g s) told ∙ ap (λ w. Ok (record g { scenes = w })) (sym set)
 scene_told g s f (Err e) es new scenes there set told =
-    let same : scenes ≡ g.scenes = set ∙ ap (set_value (is_at (nat_cmp s)) g.scenes) told.0 ∙ set_value_same (is_at (nat_cmp s)) g.scenes es there in
-    (
+    let same : scenes ≡ g.scenes = set ∙ ap (set_value (is_at (nat_cmp s)) g.scenes) told.0 ∙ set_value_same (is_at (nat_cmp s)) g.scenes es there in (
       ap (λ w. record g { scenes = w }) same,
       rw there (refuses_on (put_scene g s) (λ e. refl) e (f es) told.1),
     )

@@ -1,5 +1,5 @@
 -- What an edit makes of a project, or the first rule that it breaks.
-use Rattle.std.specs.Prelude.{◌≡◌, ◌==◌, ◌&&◌, ℕ, Bool, true, false, cond, not, nat_lt, nat_le, List, [], ◌∷◌, length, slice_set, Option, Some, None, is_some, option_and_then, Result, Ok, Err, if◌then◌else◌}
+use Rattle.std.specs.Prelude.{◌≡◌, ◌==◌, ◌&&◌, ◌+◌, ℕ, Bool, true, false, cond, not, nat_lt, nat_le, List, [], ◌∷◌, length, slice_set, Option, Some, None, is_some, option_and_then, Result, Ok, Err, if◌then◌else◌}
 use Rattle.std.specs.Map.{set_value}
 use Rattle.std.specs.BTreeMap.{is_at}
 use Rattle.std.specs.Ordering.{nat_cmp}
@@ -13,7 +13,8 @@ use Rattle.eb_scene.specs.declared.objects.Part.{Part}
 use Rattle.eb_scene.specs.declared.objects.Given.{Given}
 use Rattle.eb_scene.specs.declared.edits.Raw.{Raw}
 use Rattle.eb_scene.specs.declared.edits.RawField.{RawField}
-use Rattle.eb_scene.specs.Numbers.{without_item}
+use Rattle.eb_scene.specs.Numbers.{has_number, without_item}
+use Rattle.eb_scene.specs.Trees.{height, subtree, without_all}
 use Rattle.eb_scene.specs.Fits.{Refuses, fitted, field_fitted}
 use Rattle.eb_scene.specs.Projects.{Content, numbered, Objects, part_of, above, most_depth}
 use Rattle.eb_scene.specs.Tables.{with_numbered, without_numbered, changed}
@@ -90,6 +91,24 @@ section_set es n mark =
     if not (is_some (numbered es n)) then Err fault.NoObject
     else if is_past mark then Err fault.SectionRange
     else Ok (changed (marked mark) es n)
+
+abbrev pub parented : Option ℕ → Object → Object
+parented parent o = record o { parent = parent }
+
+-- an object put below another one, or below none
+abbrev pub parent_set : Objects → ℕ → Option ℕ → Result Objects EditFault
+parent_set es n parent =
+    if not (is_some (numbered es n)) then Err fault.NoObject
+    else if not (is_there es parent) then Err fault.NoParent
+    else if has_number (above most_depth es parent) n then Err fault.Cycle
+    else if nat_lt most_depth (length (above most_depth es parent) + height most_depth es (n ∷ [])) then Err fault.DepthLimit
+    else Ok (changed (parented parent) es n)
+
+-- an object and all below it taken out
+abbrev pub object_removed : Objects → ℕ → Result Objects EditFault
+object_removed es n =
+    if not (is_some (numbered es n)) then Err fault.NoObject
+    else Ok (without_all es (subtree most_depth es (n ∷ [])))
 
 -- ---- components
 

@@ -108,4 +108,24 @@ impl Below {
             None => {}
         }
     }
+
+    /// Moves a number from the list of one parent to that of another. Where there is no memory, nothing changes.
+    #[tactic(auto, using(crate::proofs::NumberFacts::relisted, crate::proofs::NumberFacts::relisted_same))]
+    pub fn rehang(
+        &mut self,
+        alloc: Global,
+        old: Option<u32>,
+        new: Option<u32>,
+        number: u32,
+    ) -> Result<(), Memory>
+        ensures ok { OnOk result ((q : ℕ) → list_at self.new q ≡ changed_list number (is_parent old q) (is_parent new q) (list_at self.old q)) }
+        ensures err { OnErr result ((q : ℕ) → list_at self.new q ≡ list_at self.old q) }
+    {
+        if old == new {
+            return Ok(());
+        }
+        self.hang(alloc, new, number)?;
+        self.unhang(old, number);
+        Ok(())
+    }
 }

@@ -5,15 +5,16 @@ ghost use Rattle.std.specs.Map.{keys_of};
 ghost use Rattle.eb_scene.specs.declared.keys.Key.TheVariants as key;
 ghost use Rattle.eb_scene.specs.Projects.{numbered, objects_of, object_in, part_in, section_in};
 ghost use Rattle.eb_scene.specs.Tables.{with_numbered};
-ghost use Rattle.eb_scene.specs.Edits.{Tells, scene_added, scene_removed, on_scene, object_added, section_set, asset_put, asset_removed, asset_field_set};
+ghost use Rattle.eb_scene.specs.Edits.{Tells, scene_added, scene_removed, on_scene, object_added, object_removed, parent_set, section_set, component_put, component_removed, field_set, asset_put, asset_removed, asset_field_set};
 ghost use Rattle.eb_scene.specs.Answers.{answer, Values, Above, Below, There};
 
 use crate::assets::Assets;
+use crate::component_edits::{put_component, remove_component, set_field};
 use crate::edits::{EditFault, Raw, RawField};
 use crate::fits::{field_fitted, fitted};
 use crate::objects::{Given, Object, Part};
 use crate::parts::part_of;
-use crate::scene_edits::{add_object, set_section};
+use crate::scene_edits::{add_object, remove_object, set_parent, set_section};
 use crate::scenes::Scene;
 use crate::tree::section;
 use eb_base::{AuthorNo, Memory};
@@ -196,11 +197,84 @@ impl Project {
     }
 
     /// Gives an object a mark, or takes it away.
-    pub fn set_section(&mut self, scene: u8, object: u32, section: Option<u32>) -> Result<(), EditFault>
+    pub fn set_section(
+        &mut self,
+        scene: u8,
+        object: u32,
+        section: Option<u32>,
+    ) -> Result<(), EditFault>
         ensures { Tells result self.old self.new (on_scene self.old scene (λ es. section_set es object section)) }
     {
         match self.scenes.get_mut(&scene) {
             Some(found) => set_section(found, object, section),
+            None => Err(EditFault::NoScene),
+        }
+    }
+
+    /// Takes an object away, and all below it.
+    pub fn remove_object(&mut self, scene: u8, object: u32) -> Result<(), EditFault>
+        ensures { Tells result self.old self.new (on_scene self.old scene (λ es. object_removed es object)) }
+    {
+        match self.scenes.get_mut(&scene) {
+            Some(found) => remove_object(found, self.alloc, object),
+            None => Err(EditFault::NoScene),
+        }
+    }
+
+    /// Puts an object below another one, or below none.
+    pub fn set_parent(
+        &mut self,
+        scene: u8,
+        object: u32,
+        parent: Option<u32>,
+    ) -> Result<(), EditFault>
+        ensures { Tells result self.old self.new (on_scene self.old scene (λ es. parent_set es object parent)) }
+    {
+        match self.scenes.get_mut(&scene) {
+            Some(found) => set_parent(found, self.alloc, object, parent),
+            None => Err(EditFault::NoScene),
+        }
+    }
+
+    /// Gives an object a component, in place of the one of the type if there is one.
+    pub fn put_component(
+        &mut self,
+        scene: u8,
+        object: u32,
+        kind: &[u8],
+        fields: &[RawField],
+    ) -> Result<(), EditFault>
+        ensures { Tells result self.old self.new (on_scene self.old scene (λ es. component_put self.old.schema es object kind.now fields.now)) }
+    {
+        match self.scenes.get_mut(&scene) {
+            Some(found) => { put_component(found, self.alloc, &self.schema, object, kind, fields) }
+            None => Err(EditFault::NoScene),
+        }
+    }
+
+    /// Takes a component away.
+    pub fn remove_component(&mut self, scene: u8, object: u32, kind: &[u8]) -> Result<(), EditFault>
+        ensures { Tells result self.old self.new (on_scene self.old scene (λ es. component_removed self.old.schema es object kind.now)) }
+    {
+        match self.scenes.get_mut(&scene) {
+            Some(found) => remove_component(found, &self.schema, object, kind),
+            None => Err(EditFault::NoScene),
+        }
+    }
+
+    /// Gives a field of a component another value.
+    pub fn set_field(
+        &mut self,
+        scene: u8,
+        object: u32,
+        kind: &[u8],
+        field: &[u8],
+        value: Raw,
+    ) -> Result<(), EditFault>
+        ensures { Tells result self.old self.new (on_scene self.old scene (λ es. field_set self.old.schema es object kind.now field.now value)) }
+    {
+        match self.scenes.get_mut(&scene) {
+            Some(found) => set_field(found, &self.schema, object, kind, field, value),
             None => Err(EditFault::NoScene),
         }
     }

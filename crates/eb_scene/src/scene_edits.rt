@@ -1,13 +1,14 @@
 // Edits of the objects of one scene, each with its refusals in order.
-ghost use Rattle.std.specs.Prelude.{◌≡◌, false, nat_le, length};
+ghost use Rattle.std.specs.Prelude.{◌≡◌, ◌+◌, [], ◌∷◌, false, nat_le, nat_lt, length, IfOk};
+ghost use Rattle.eb_scene.specs.Trees.{height};
 ghost use Rattle.eb_scene.specs.Projects.{above, most_depth};
-ghost use Rattle.eb_scene.specs.Edits.{Tells, is_past, is_there, object_added, section_set};
+ghost use Rattle.eb_scene.specs.Edits.{Tells, is_past, is_there, object_added, section_set, parent_set, object_removed};
 
 use crate::edits::EditFault;
 use crate::objects::Object;
 use crate::scenes::Scene;
-use crate::tree::{MOST_DEPTH, depth};
-use eb_base::Items;
+use crate::tree::{MOST_DEPTH, depth, height, meets, subtree, take_all};
+use eb_base::{Items, Memory};
 use std::alloc::Global;
 
 /// Most objects of a scene.
@@ -100,5 +101,55 @@ pub fn set_section(scene: &mut Scene, number: u32, section: Option<u32>) -> Resu
         return Err(EditFault::SectionRange);
     }
     scene.set_mark(number, mark_of(section));
+    Ok(())
+}
+
+/// Whether an object and those below it would stand too deep below this one.
+fn is_deep_below(
+    scene: &Scene,
+    alloc: Global,
+    number: u32,
+    parent: Option<u32>,
+) -> Result<bool, Memory>
+    ensures { IfOk result (λ deep. deep ≡ nat_lt most_depth (length (above most_depth scene.now parent) + height most_depth scene.now (number ∷ []))) }
+{
+    let below = height(scene, alloc, MOST_DEPTH, number)?;
+    Ok(depth(scene, MOST_DEPTH, parent) + below > MOST_DEPTH)
+}
+
+/// Puts an object below another one, or below none.
+pub fn set_parent(
+    scene: &mut Scene,
+    alloc: Global,
+    number: u32,
+    parent: Option<u32>,
+) -> Result<(), EditFault>
+    ensures { Tells result scene.old scene.new (parent_set scene.old number parent) }
+{
+    if !scene.has(number) {
+        return Err(EditFault::NoObject);
+    }
+    if !is_there(scene, parent) {
+        return Err(EditFault::NoParent);
+    }
+    if meets(scene, MOST_DEPTH, parent, number) {
+        return Err(EditFault::Cycle);
+    }
+    if is_deep_below(scene, alloc, number, parent)? {
+        return Err(EditFault::DepthLimit);
+    }
+    scene.set_parent(number, parent)?;
+    Ok(())
+}
+
+/// Takes an object out, and all below it.
+pub fn remove_object(scene: &mut Scene, alloc: Global, number: u32) -> Result<(), EditFault>
+    ensures { Tells result scene.old scene.new (object_removed scene.old number) }
+{
+    if !scene.has(number) {
+        return Err(EditFault::NoObject);
+    }
+    let all = subtree(scene, alloc, MOST_DEPTH, number)?;
+    take_all(scene, &all);
     Ok(())
 }

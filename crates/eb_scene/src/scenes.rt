@@ -1,12 +1,12 @@
 // A scene: its objects, the children of each, and the list of all numbers.
-ghost use Rattle.std.specs.Prelude.{◌≡◌, ℕ, [], OnOk, OnErr, IfNone, is_some, length, Some, None};
+ghost use Rattle.std.specs.Prelude.{◌≡◌, ℕ, [], OnOk, OnErr, is_some, length, true};
 ghost use Rattle.std.specs.Option.{option_copied};
 ghost use Rattle.std.specs.Map.{keys_of};
 ghost use Rattle.std.specs.Ordering.{nat_cmp};
 ghost use Rattle.std.specs.List.Sorted.{IsStrictlySortedBy};
 ghost use Rattle.eb_scene.specs.Projects.{numbered, parent_at, mark_at, children_of, above, first_mark, section};
 ghost use Rattle.eb_scene.specs.Tables.{with_numbered, without_numbered, changed};
-ghost use Rattle.eb_scene.specs.Edits.{marked, with_part, without_part, with_value};
+ghost use Rattle.eb_scene.specs.Edits.{marked, parented, with_part, without_part, with_value};
 
 use crate::below::Below;
 use crate::numbers::Numbers;
@@ -137,6 +137,18 @@ impl Scene {
         }
     }
 
+    /// Puts an object below another one, or below none. Where there is no memory, nothing changes.
+    pub fn set_parent(&mut self, number: u32, parent: Option<u32>) -> Result<(), Memory>
+        requires { is_some (numbered self.old number) ≡ true }
+        ensures ok { OnOk result (self.new ≡ changed (parented parent) self.old number) }
+        ensures err { OnErr result (self.new ≡ self.old) }
+    {
+        let old = self.objects.parent(number);
+        self.below.rehang(self.alloc, old, parent, number)?;
+        self.objects.set_parent(number, parent);
+        Ok(())
+    }
+
     /// Gives an object a mark, or takes it away. Takes no memory.
     pub fn set_mark(&mut self, number: u32, mark: Option<u8>)
         ensures { self.new ≡ changed (marked mark) self.old number }
@@ -163,6 +175,7 @@ impl Scene {
     pub fn set_value(&mut self, number: u32, kind: AuthorNo, place: usize, value: Given)
         ensures { self.new ≡ changed (with_value kind place value) self.old number }
     {
-        self.objects.set_value(self.alloc, number, kind, place, value);
+        self.objects
+            .set_value(self.alloc, number, kind, place, value);
     }
 }

@@ -6,7 +6,7 @@ ghost use Rattle.std.specs.List.Sorted.{IsStrictlySortedBy};
 ghost use Rattle.std.specs.Ordering.{nat_cmp};
 ghost use Rattle.eb_scene.specs.Projects.{numbered, parent_at, mark_at};
 ghost use Rattle.eb_scene.specs.Tables.{with_numbered, without_numbered, changed};
-ghost use Rattle.eb_scene.specs.Edits.{marked, with_part, without_part, with_value};
+ghost use Rattle.eb_scene.specs.Edits.{marked, parented, with_part, without_part, with_value};
 
 use crate::objects::{Given, Object, Part};
 use crate::parts::{put_part, set_value, take_part};
@@ -100,6 +100,17 @@ impl Table {
         self.objects.remove(&number)
     }
 
+    /// Puts an object below another one, or below none. Takes no memory.
+    pub fn set_parent(&mut self, number: u32, parent: Option<u32>)
+        ensures set { self.new ≡ changed (parented parent) self.old number }
+        ensures order { IsStrictlySortedBy nat_cmp (keys_of self.old) }
+    {
+        match self.objects.get_mut(&number) {
+            Some(object) => object.parent = parent,
+            None => {}
+        }
+    }
+
     /// Gives an object a mark, or takes it away. Takes no memory.
     pub fn set_mark(&mut self, number: u32, mark: Option<u8>)
         ensures { self.new ≡ changed (marked mark) self.old number }
@@ -132,7 +143,14 @@ impl Table {
     }
 
     /// Gives a field of a component another value. Takes no memory.
-    pub fn set_value(&mut self, alloc: Global, number: u32, kind: AuthorNo, place: usize, value: Given)
+    pub fn set_value(
+        &mut self,
+        alloc: Global,
+        number: u32,
+        kind: AuthorNo,
+        place: usize,
+        value: Given,
+    )
         ensures { self.new ≡ changed (with_value kind place value) self.old number }
     {
         match self.objects.get_mut(&number) {

@@ -14,8 +14,8 @@ returns-in-Some c =
     let ps = c.args.object.now.components in
     let part = rw same at c.index_mut.ensures.value in
     ap (λ qs. record c.args.object.now { components = qs }) (c.of.ensures ∙ rw (same, c.set_item.ensures)
-      (ap (λ p. slice_set ps c.in-Some.at (revalued c.args.place c.args.value p)) part
-      ∙ set_at ps c.args.kind c.in-Some.at c.args.place c.args.value _ (sym (rw c.items.ensures at c.in-Some.ensures))))
+    (ap (λ p. slice_set ps c.in-Some.at (revalued c.args.place c.args.value p)) part
+    ∙ set_at ps c.args.kind c.in-Some.at c.args.place c.args.value _ (sym (rw c.items.ensures at c.in-Some.ensures))))
 
 pub returns-in-None : goal.returns-in-None
 returns-in-None c = ap (λ ps. record c.args.object.now { components = ps }) (sym (not_set c.args.object.now.components c.args.kind c.args.place c.args.value (sym (rw c.items.ensures at c.in-None.ensures))))
