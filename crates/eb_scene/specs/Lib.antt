@@ -6,3 +6,4 @@ pub mod Trees
 pub mod Parts
 pub mod Fits
 pub mod Edits
+pub mod Touched

@@ -16,7 +16,7 @@ use std::alloc::Global;
 const MOST_PARTS: usize = 16;
 
 /// The authoring type of a name.
-fn type_named<'a>(schema: &'a Schema, name: &[u8]) -> Option<&'a Authoring>
+pub fn type_named<'a>(schema: &'a Schema, name: &[u8]) -> Option<&'a Authoring>
     ensures { option_copied result ≡ type_named schema.now name.now }
 {
     match schema.authoring_named(name) {

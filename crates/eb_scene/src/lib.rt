@@ -14,6 +14,7 @@ pub mod projects;
 mod scene_edits;
 mod scenes;
 mod table;
+mod touching;
 mod tree;
 
 pub use edits::{Edit, EditFault, Raw, RawField};

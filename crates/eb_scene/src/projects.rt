@@ -1,21 +1,24 @@
 // The project: what can be asked of it, and its edits.
-ghost use Rattle.std.specs.Prelude.{◌≡◌, [], is_some, option_map, OnOk, OnErr};
+ghost use Rattle.std.specs.Prelude.{◌≡◌, [], is_some, option_map, IfOk, OnOk, OnErr};
 ghost use Rattle.std.specs.Option.{option_copied};
 ghost use Rattle.std.specs.Map.{keys_of};
 ghost use Rattle.eb_scene.specs.declared.keys.Key.TheVariants as key;
 ghost use Rattle.eb_scene.specs.Projects.{numbered, objects_of, object_in, part_in, section_in};
 ghost use Rattle.eb_scene.specs.Tables.{with_numbered};
 ghost use Rattle.eb_scene.specs.Edits.{Tells, scene_added, scene_removed, on_scene, object_added, object_removed, parent_set, section_set, component_put, component_removed, field_set, asset_put, asset_removed, asset_field_set};
+ghost use Rattle.eb_scene.specs.Touched.{edited, touched, removed_keys, moved_keys};
 ghost use Rattle.eb_scene.specs.Answers.{answer, Values, Above, Below, There};
 
 use crate::assets::Assets;
 use crate::component_edits::{put_component, remove_component, set_field};
-use crate::edits::{EditFault, Raw, RawField};
+use crate::edits::{Edit, EditFault, Raw, RawField};
 use crate::fits::{field_fitted, fitted};
+use crate::keys::Key;
 use crate::objects::{Given, Object, Part};
 use crate::parts::part_of;
 use crate::scene_edits::{add_object, remove_object, set_parent, set_section};
 use crate::scenes::Scene;
+use crate::touching::{added_keys, moved_keys, part_key, removed_keys, single_key};
 use crate::tree::section;
 use eb_base::{AuthorNo, Memory};
 use eb_schema::Schema;
@@ -159,7 +162,7 @@ impl Project {
     }
 
     /// Makes an empty scene. `SceneTaken` comes exactly where it is there.
-    pub fn add_scene(&mut self, scene: u8) -> Result<(), EditFault>
+    fn add_scene(&mut self, scene: u8) -> Result<(), EditFault>
         ensures { Tells result self.old self.new (scene_added self.old scene) }
     {
         if self.has_scene(scene) {
@@ -170,7 +173,7 @@ impl Project {
     }
 
     /// Takes a scene away, with all that is in it. `NoScene` comes exactly where it isn't there.
-    pub fn remove_scene(&mut self, scene: u8) -> Result<(), EditFault>
+    fn remove_scene(&mut self, scene: u8) -> Result<(), EditFault>
         ensures { Tells result self.old self.new (scene_removed self.old scene) }
     {
         if !self.has_scene(scene) {
@@ -181,7 +184,7 @@ impl Project {
     }
 
     /// Makes an object without components.
-    pub fn add_object(
+    fn add_object(
         &mut self,
         scene: u8,
         object: u32,
@@ -197,12 +200,7 @@ impl Project {
     }
 
     /// Gives an object a mark, or takes it away.
-    pub fn set_section(
-        &mut self,
-        scene: u8,
-        object: u32,
-        section: Option<u32>,
-    ) -> Result<(), EditFault>
+    fn set_section(&mut self, scene: u8, object: u32, section: Option<u32>) -> Result<(), EditFault>
         ensures { Tells result self.old self.new (on_scene self.old scene (λ es. section_set es object section)) }
     {
         match self.scenes.get_mut(&scene) {
@@ -212,7 +210,7 @@ impl Project {
     }
 
     /// Takes an object away, and all below it.
-    pub fn remove_object(&mut self, scene: u8, object: u32) -> Result<(), EditFault>
+    fn remove_object(&mut self, scene: u8, object: u32) -> Result<(), EditFault>
         ensures { Tells result self.old self.new (on_scene self.old scene (λ es. object_removed es object)) }
     {
         match self.scenes.get_mut(&scene) {
@@ -222,12 +220,7 @@ impl Project {
     }
 
     /// Puts an object below another one, or below none.
-    pub fn set_parent(
-        &mut self,
-        scene: u8,
-        object: u32,
-        parent: Option<u32>,
-    ) -> Result<(), EditFault>
+    fn set_parent(&mut self, scene: u8, object: u32, parent: Option<u32>) -> Result<(), EditFault>
         ensures { Tells result self.old self.new (on_scene self.old scene (λ es. parent_set es object parent)) }
     {
         match self.scenes.get_mut(&scene) {
@@ -237,7 +230,7 @@ impl Project {
     }
 
     /// Gives an object a component, in place of the one of the type if there is one.
-    pub fn put_component(
+    fn put_component(
         &mut self,
         scene: u8,
         object: u32,
@@ -253,7 +246,7 @@ impl Project {
     }
 
     /// Takes a component away.
-    pub fn remove_component(&mut self, scene: u8, object: u32, kind: &[u8]) -> Result<(), EditFault>
+    fn remove_component(&mut self, scene: u8, object: u32, kind: &[u8]) -> Result<(), EditFault>
         ensures { Tells result self.old self.new (on_scene self.old scene (λ es. component_removed self.old.schema es object kind.now)) }
     {
         match self.scenes.get_mut(&scene) {
@@ -263,7 +256,7 @@ impl Project {
     }
 
     /// Gives a field of a component another value.
-    pub fn set_field(
+    fn set_field(
         &mut self,
         scene: u8,
         object: u32,
@@ -280,7 +273,7 @@ impl Project {
     }
 
     /// Makes an asset, in place of the one of the number if there is one.
-    pub fn put_asset(&mut self, asset: u32, fields: &[RawField]) -> Result<(), EditFault>
+    fn put_asset(&mut self, asset: u32, fields: &[RawField]) -> Result<(), EditFault>
         ensures { Tells result self.old self.new (asset_put self.old asset fields.now) }
     {
         let values = fitted(self.alloc, self.schema.asset_fields(), fields)?;
@@ -292,7 +285,7 @@ impl Project {
     }
 
     /// Takes an asset away. `NoAsset` comes exactly where it isn't there.
-    pub fn remove_asset(&mut self, asset: u32) -> Result<(), EditFault>
+    fn remove_asset(&mut self, asset: u32) -> Result<(), EditFault>
         ensures { Tells result self.old self.new (asset_removed self.old asset) }
     {
         if !self.assets.has(asset) {
@@ -303,7 +296,7 @@ impl Project {
     }
 
     /// Gives a field of an asset another value.
-    pub fn set_asset_field(&mut self, asset: u32, field: &[u8], value: Raw) -> Result<(), EditFault>
+    fn set_asset_field(&mut self, asset: u32, field: &[u8], value: Raw) -> Result<(), EditFault>
         ensures { Tells result self.old self.new (asset_field_set self.old asset field.now value) }
     {
         let (place, value) = field_fitted(self.schema.asset_fields(), field, value)?;
@@ -312,5 +305,138 @@ impl Project {
         }
         self.assets.set_value(asset, place, value);
         Ok(())
+    }
+
+    /// The keys that an edit touches.
+    fn touched(&self, edit: &Edit) -> Result<Vec<Key>, Memory>
+        ensures { IfOk result (λ keys. keys.items ≡ touched self.now edit.now) }
+    {
+        let alloc = self.alloc;
+        match edit {
+            Edit::AddScene { .. } | Edit::RemoveScene { .. } | Edit::SetSection { .. } => {
+                Ok(Vec::new(alloc))
+            }
+            Edit::AddObject {
+                scene,
+                object,
+                parent,
+                ..
+            } => added_keys(alloc, *scene, *object, *parent),
+            Edit::RemoveObject { scene, object } => self.removed(*scene, *object),
+            Edit::SetParent {
+                scene,
+                object,
+                parent,
+            } => self.moved(*scene, *object, *parent),
+            Edit::PutComponent {
+                scene,
+                object,
+                kind,
+                ..
+            }
+            | Edit::RemoveComponent {
+                scene,
+                object,
+                kind,
+            }
+            | Edit::SetField {
+                scene,
+                object,
+                kind,
+                ..
+            } => part_key(alloc, &self.schema, *scene, *object, kind.bytes()),
+            Edit::PutAsset { asset, .. }
+            | Edit::RemoveAsset { asset }
+            | Edit::SetAssetField { asset, .. } => single_key(alloc, Key::Asset { asset: *asset }),
+        }
+    }
+
+    /// The keys that go with an object and all below it.
+    fn removed(&self, scene: u8, object: u32) -> Result<Vec<Key>, Memory>
+        ensures { IfOk result (λ keys. keys.items ≡ removed_keys scene object (numbered self.now.scenes scene)) }
+    {
+        match self.scenes.get(&scene) {
+            Some(found) => {
+                let keys = removed_keys(self.alloc, found, scene, object)?;
+                Ok(keys)
+            }
+            None => Ok(Vec::new(self.alloc)),
+        }
+    }
+
+    /// The keys of an object that gets another parent.
+    fn moved(&self, scene: u8, object: u32, parent: Option<u32>) -> Result<Vec<Key>, Memory>
+        ensures { IfOk result (λ keys. keys.items ≡ moved_keys scene object parent (numbered self.now.scenes scene)) }
+    {
+        match self.scenes.get(&scene) {
+            Some(found) => {
+                let keys = moved_keys(self.alloc, found, scene, object, parent)?;
+                Ok(keys)
+            }
+            None => Ok(Vec::new(self.alloc)),
+        }
+    }
+
+    /// Does an edit.
+    fn apply(&mut self, edit: &Edit) -> Result<(), EditFault>
+        ensures { Tells result self.old self.new (edited self.old edit.now) }
+    {
+        match edit {
+            Edit::AddScene { scene } => self.add_scene(*scene),
+            Edit::RemoveScene { scene } => self.remove_scene(*scene),
+            Edit::AddObject {
+                scene,
+                object,
+                parent,
+                section,
+            } => self.add_object(*scene, *object, *parent, *section),
+            Edit::RemoveObject { scene, object } => self.remove_object(*scene, *object),
+            Edit::SetParent {
+                scene,
+                object,
+                parent,
+            } => self.set_parent(*scene, *object, *parent),
+            Edit::SetSection {
+                scene,
+                object,
+                section,
+            } => self.set_section(*scene, *object, *section),
+            Edit::PutComponent {
+                scene,
+                object,
+                kind,
+                fields,
+            } => self.put_component(*scene, *object, kind.bytes(), fields.items()),
+            Edit::RemoveComponent {
+                scene,
+                object,
+                kind,
+            } => self.remove_component(*scene, *object, kind.bytes()),
+            Edit::SetField {
+                scene,
+                object,
+                kind,
+                field,
+                value,
+            } => self.set_field(*scene, *object, kind.bytes(), field.bytes(), *value),
+            Edit::PutAsset { asset, fields } => self.put_asset(*asset, fields.items()),
+            Edit::RemoveAsset { asset } => self.remove_asset(*asset),
+            Edit::SetAssetField {
+                asset,
+                field,
+                value,
+            } => self.set_asset_field(*asset, field.bytes(), *value),
+        }
+    }
+
+    /// Does an edit, and answers the keys that it touched. Otherwise it answers the first rule that the edit breaks,
+    /// in the order of `EditFault`, and nothing changes.
+    pub fn edit(&mut self, edit: &Edit) -> Result<Vec<Key>, EditFault>
+        ensures edited { Tells result self.old self.new (edited self.old edit.now) }
+        ensures touched { IfOk result (λ keys. keys.items ≡ touched self.old edit.now) }
+    {
+        let keys = self.touched(edit)?;
+        self.apply(edit)?;
+        Ok(keys)
     }
 }

@@ -8,7 +8,7 @@ loop-i-preserved c =
     let all = c.loop-i.all.items in
     rw (c.in_ok-extend_from_slice.ensures.items, c.in_ok-level-2.ensures, c.deref.ensures.value, c.deref-in-loop-i.ensures.value)
     (append_assoc all c.loop-i.level.items _
-      ∙ ap (λ ns. all ++ ns) (sym (subtree_some c.args.scene.now c.loop-i.level.items c.args.levels c.loop-i.i c.loop-i-test.true)) ∙ c.loop-i.invariant)
+    ∙ ap (λ ns. all ++ ns) (sym (subtree_some c.args.scene.now c.loop-i.level.items c.args.levels c.loop-i.i c.loop-i-test.true)) ∙ c.loop-i.invariant)
 
 pub returns : goal.returns
 returns c =
