@@ -77,9 +77,6 @@ as_numbers ks h = subst (IsStrictlySortedBy nat_cmp) (sym (map_same ks)) h
 pub found_place : (ks : List ℕ) (n : ℕ) (r : Result ℕ ℕ) → IsStrictlySortedBy nat_cmp ks → IsSearchInRange r (length ks) → IsBinarySearchResult (λ k. nat_cmp k n) ks r → r ≡ place_of (λ k. k) n ks
 found_place ks n r sorted within is = searched (λ k. k) ks n r (as_numbers ks sorted) within is
 
-pub has_place : (ks : List ℕ) (n : ℕ) (r : Result ℕ ℕ) → IsStrictlySortedBy nat_cmp ks → IsSearchInRange r (length ks) → r ≡ place_of (λ k. k) n ks → is_ok r ≡ has_number ks n
-has_place ks n r sorted within is = has_placed (λ k. k) n ks r (as_numbers ks sorted) within is
-
 pub sorted_with_number : (n : ℕ) (ks : List ℕ) → IsStrictlySortedBy nat_cmp ks → IsStrictlySortedBy nat_cmp (with_number ks n)
 sorted_with_number n ks h = subst (IsStrictlySortedBy nat_cmp) (map_same (with_number ks n)) (sorted_with (λ k. k) n ks (as_numbers ks h))
 

@@ -4,6 +4,8 @@ use Rattle.std.specs.Map.{set_value}
 use Rattle.std.specs.BTreeMap.{is_at}
 use Rattle.std.specs.Ordering.{nat_cmp}
 use Rattle.eb_scene.specs.declared.objects.Object.{Object}
+use Rattle.eb_scene.specs.declared.edits.Edit.{Edit}
+use Rattle.eb_scene.specs.declared.edits.Edit.TheVariants as edit
 use Rattle.eb_scene.specs.declared.edits.EditFault.{EditFault}
 use Rattle.eb_scene.specs.declared.edits.EditFault.TheVariants as fault
 use Rattle.eb_schema.specs.declared.kinds.Authoring.{Authoring}
@@ -189,3 +191,20 @@ asset_field_set g n field raw =
     and_so (field_fitted g.schema.assets field raw) (λ p.
     if not (is_some (numbered g.assets n)) then Err fault.NoAsset
     else Ok (record g { assets = changed (λ values. slice_set values p.0 p.1) g.assets n }))
+
+-- ---- all edits
+
+-- the project after an edit, or the first rule that it breaks
+abbrev pub edited : Content → Edit → Result Content EditFault
+edited g (edit.AddScene s) = scene_added g s
+edited g (edit.RemoveScene s) = scene_removed g s
+edited g (edit.AddObject s n parent mark) = on_scene g s (λ es. object_added es n parent mark)
+edited g (edit.RemoveObject s n) = on_scene g s (λ es. object_removed es n)
+edited g (edit.SetParent s n parent) = on_scene g s (λ es. parent_set es n parent)
+edited g (edit.SetSection s n mark) = on_scene g s (λ es. section_set es n mark)
+edited g (edit.PutComponent s n kind fields) = on_scene g s (λ es. component_put g.schema es n kind fields)
+edited g (edit.RemoveComponent s n kind) = on_scene g s (λ es. component_removed g.schema es n kind)
+edited g (edit.SetField s n kind field value) = on_scene g s (λ es. field_set g.schema es n kind field value)
+edited g (edit.PutAsset n fields) = asset_put g n fields
+edited g (edit.RemoveAsset n) = asset_removed g n
+edited g (edit.SetAssetField n field value) = asset_field_set g n field value

@@ -1,32 +1,14 @@
--- What an edit is, and the keys that it touches: those whose answers it may change.
-use Rattle.std.specs.Prelude.{ℕ, List, [], ◌∷◌, ◌++◌, map, flat_map, Option, Some, None, Result}
+-- The keys that an edit touches: those whose answers it may change.
+use Rattle.std.specs.Prelude.{ℕ, List, [], ◌∷◌, ◌++◌, map, flat_map, Option, Some, None}
 use Rattle.eb_schema.specs.declared.kinds.Authoring.{Authoring}
 use Rattle.eb_scene.specs.declared.objects.Object.{Object}
 use Rattle.eb_scene.specs.declared.keys.Key.{Key}
 use Rattle.eb_scene.specs.declared.keys.Key.TheVariants as key
 use Rattle.eb_scene.specs.declared.edits.Edit.{Edit}
-use Rattle.eb_scene.specs.declared.edits.Edit.TheVariants as e
-use Rattle.eb_scene.specs.declared.edits.EditFault.{EditFault}
+use Rattle.eb_scene.specs.declared.edits.Edit.TheVariants as edit
 use Rattle.eb_scene.specs.Projects.{Content, Objects, numbered, parent_at, most_depth}
 use Rattle.eb_scene.specs.Trees.{subtree}
-use Rattle.eb_scene.specs.Edits.{scene_added, scene_removed, on_scene, object_added, object_removed, parent_set, section_set, type_named, component_put, component_removed, field_set, asset_put, asset_removed, asset_field_set}
-
--- the project after an edit, or the first rule that it breaks
-abbrev pub edited : Content → Edit → Result Content EditFault
-edited g (e.AddScene s) = scene_added g s
-edited g (e.RemoveScene s) = scene_removed g s
-edited g (e.AddObject s n parent mark) = on_scene g s (λ es. object_added es n parent mark)
-edited g (e.RemoveObject s n) = on_scene g s (λ es. object_removed es n)
-edited g (e.SetParent s n parent) = on_scene g s (λ es. parent_set es n parent)
-edited g (e.SetSection s n mark) = on_scene g s (λ es. section_set es n mark)
-edited g (e.PutComponent s n kind fields) = on_scene g s (λ es. component_put g.schema es n kind fields)
-edited g (e.RemoveComponent s n kind) = on_scene g s (λ es. component_removed g.schema es n kind)
-edited g (e.SetField s n kind field value) = on_scene g s (λ es. field_set g.schema es n kind field value)
-edited g (e.PutAsset n fields) = asset_put g n fields
-edited g (e.RemoveAsset n) = asset_removed g n
-edited g (e.SetAssetField n field value) = asset_field_set g n field value
-
--- ---- touched keys
+use Rattle.eb_scene.specs.Edits.{type_named}
 
 -- the children of an object, if it is one
 abbrev pub children_key : ℕ → Option ℕ → List Key
@@ -56,15 +38,15 @@ moved_keys s n parent (Some es) = (key.Parent s n ∷ children_key s (parent_at 
 
 -- the keys that an edit touches, also where the new answer equals the old one
 abbrev pub touched : Content → Edit → List Key
-touched g (e.AddScene s) = []
-touched g (e.RemoveScene s) = []
-touched g (e.AddObject s n parent mark) = key.Exists s n ∷ children_key s parent
-touched g (e.RemoveObject s n) = removed_keys s n (numbered g.scenes s)
-touched g (e.SetParent s n parent) = moved_keys s n parent (numbered g.scenes s)
-touched g (e.SetSection s n mark) = []
-touched g (e.PutComponent s n kind fields) = part_key s n (type_named g.schema kind)
-touched g (e.RemoveComponent s n kind) = part_key s n (type_named g.schema kind)
-touched g (e.SetField s n kind field value) = part_key s n (type_named g.schema kind)
-touched g (e.PutAsset n fields) = key.Asset n ∷ []
-touched g (e.RemoveAsset n) = key.Asset n ∷ []
-touched g (e.SetAssetField n field value) = key.Asset n ∷ []
+touched g (edit.AddScene s) = []
+touched g (edit.RemoveScene s) = []
+touched g (edit.AddObject s n parent mark) = key.Exists s n ∷ children_key s parent
+touched g (edit.RemoveObject s n) = removed_keys s n (numbered g.scenes s)
+touched g (edit.SetParent s n parent) = moved_keys s n parent (numbered g.scenes s)
+touched g (edit.SetSection s n mark) = []
+touched g (edit.PutComponent s n kind fields) = part_key s n (type_named g.schema kind)
+touched g (edit.RemoveComponent s n kind) = part_key s n (type_named g.schema kind)
+touched g (edit.SetField s n kind field value) = part_key s n (type_named g.schema kind)
+touched g (edit.PutAsset n fields) = key.Asset n ∷ []
+touched g (edit.RemoveAsset n) = key.Asset n ∷ []
+touched g (edit.SetAssetField n field value) = key.Asset n ∷ []

@@ -3,7 +3,7 @@ ghost use Rattle.std.specs.Prelude.{◌≡◌, [], OnOk, OnErr, length};
 ghost use Rattle.std.specs.List.Sorted.{IsStrictlySortedBy, IsSearchInRange};
 ghost use Rattle.std.specs.Ordering.{nat_cmp};
 ghost use Rattle.eb_schema.specs.TypeOrder.{place_of};
-ghost use Rattle.eb_scene.specs.Numbers.{has_number, with_number, without_number};
+ghost use Rattle.eb_scene.specs.Numbers.{with_number, without_number};
 
 use eb_base::Memory;
 use std::alloc::Global;
@@ -52,13 +52,6 @@ impl Numbers {
         ensures order { IsStrictlySortedBy nat_cmp self.now }
     {
         self.list.as_slice()
-    }
-
-    /// Whether a number is there. Takes no memory, and time by the logarithm of the length.
-    pub fn has(&self, number: u32) -> bool
-        ensures { result ≡ has_number self.now number }
-    {
-        place(self.list.as_slice(), number).is_ok()
     }
 
     /// Adds a number, if it isn't there. Where there is no memory for it, nothing changes.
