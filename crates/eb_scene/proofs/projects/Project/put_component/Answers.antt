@@ -1,0 +1,15 @@
+use Rattle.std.proofs.Common.{rules, sym, ap, ◌∙◌}
+use Rattle.std.specs.Option.{option_copied_mut}
+use Rattle.eb_scene.specs.Edits.{component_put}
+use Rattle.eb_scene.proofs.SceneFacts.{scene_told}
+use Rattle.eb_scene.proofs.projects.Project.put_component.Goals.{in-Some, in-None}
+use Rattle.eb_scene.proofs.projects.Project.put_component.Goals as goal
+
+pub returns : goal.returns
+returns c = elim c.match-get_mut.branch [
+  | in-Some w ↦
+      let set = c.get_mut.follows.holds w.put_component.new.scene in
+      let there = sym c.get_mut.ensures.value ∙ ap option_copied_mut w.in-Some.is in
+      rw (w.result-is, w.self-inside-is, ← c.self.view_is) (scene_told _ c.args.scene (λ es. component_put c.self.inside.schema es c.args.object c.args.kind.now c.args.fields.now) _ _ _ _ there set.0 w.put_component.ensures)
+  | in-None w ↦ search rules
+]

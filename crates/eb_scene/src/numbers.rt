@@ -1,0 +1,82 @@
+// Ascending lists of numbers.
+ghost use Rattle.std.specs.Prelude.{◌≡◌, [], OnOk, OnErr, length};
+ghost use Rattle.std.specs.List.Sorted.{IsStrictlySortedBy, IsSearchInRange};
+ghost use Rattle.std.specs.Ordering.{nat_cmp};
+ghost use Rattle.eb_schema.specs.TypeOrder.{place_of};
+ghost use Rattle.eb_scene.specs.Numbers.{with_number, without_number};
+
+use eb_base::Memory;
+use std::alloc::Global;
+use std::marker::Model;
+
+/// Numbers in ascending order, each once. Contracts see the list.
+#[derive(Debug, Drop)]
+pub struct Numbers {
+    list: Vec<u32>,
+}
+
+impl Model for Numbers {
+    ghost use Rattle.std.specs.Prelude.{ℕ, List};
+    ghost use Rattle.std.specs.List.Sorted.{IsStrictlySortedBy};
+    ghost use Rattle.std.specs.Ordering.{nat_cmp};
+
+    ghost Value = { List ℕ };
+
+    ghost view = { λ n. n.list.items };
+
+    ghost invariant = { λ n. IsStrictlySortedBy nat_cmp n.list.items };
+}
+
+/// The place of a number in an ascending list, or else the one where it would stand.
+fn place(list: &[u32], number: u32) -> Result<usize, usize>
+    requires { IsStrictlySortedBy nat_cmp list.now }
+    ensures place { result ≡ place_of (λ k. k) number list.now }
+    ensures bound { IsSearchInRange result (length list.now) }
+{
+    list.binary_search(&number)
+}
+
+impl Numbers {
+    /// No numbers. Takes no memory.
+    pub fn new(alloc: Global) -> Self
+        ensures { result ≡ [] }
+    {
+        Numbers {
+            list: Vec::new(alloc),
+        }
+    }
+
+    /// The numbers. Takes no memory.
+    pub fn items(&self) -> &[u32]
+        ensures items { result.now ≡ self.now }
+        ensures order { IsStrictlySortedBy nat_cmp self.now }
+    {
+        self.list.as_slice()
+    }
+
+    /// Adds a number, if it isn't there. Where there is no memory for it, nothing changes.
+    pub fn add(&mut self, number: u32) -> Result<(), Memory>
+        ensures ok { OnOk result (self.new ≡ with_number self.old number) }
+        ensures err { OnErr result (self.new ≡ self.old) }
+    {
+        match place(self.list.as_slice(), number) {
+            Ok(_) => Ok(()),
+            Err(at) => {
+                self.list.insert(at, number)?;
+                Ok(())
+            }
+        }
+    }
+
+    /// Takes a number away, if it is there. Takes no memory.
+    pub fn remove(&mut self, number: u32)
+        ensures { self.new ≡ without_number self.old number }
+    {
+        match place(self.list.as_slice(), number) {
+            Ok(at) => {
+                self.list.remove(at);
+            }
+            Err(_) => {}
+        }
+    }
+}
