@@ -21,6 +21,3 @@ pub use edits::{Edit, EditFault, Raw, RawField};
 pub use keys::Key;
 pub use objects::{Given, Object, Part};
 pub use projects::Project;
-
-#[cfg(test)]
-mod tests;
