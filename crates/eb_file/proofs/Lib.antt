@@ -1,4 +1,5 @@
 pub mod Apart
+pub mod Columns
 pub mod Members
 pub mod NumberRows
 pub mod OneSpelling

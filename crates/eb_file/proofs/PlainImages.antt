@@ -1,15 +1,14 @@
--- The spelling of an image whose rows have one number each.
-use Rattle.std.proofs.Common.{◌≡◌, ℕ, ℤ, ◌<◌, cond, Option, Some, None, List, [], ◌∷◌, ◌++◌, length, map, get_or, refl, sym, ap, subst, ◌∙◌, All, arith}
-use Rattle.std.specs.Prelude.{◌==◌, FitsSigned, IsSomeAnd, find, flat_map, nat_eq, option_and_then, option_map, slice_get, unwrap_or}
+-- The spelling of an image whose rows have numbers alone.
+use Rattle.std.proofs.Common.{◌≡◌, ℕ, ◌+◌, ◌<◌, ℤ, cond, Option, Some, None, List, [], ◌∷◌, ◌++◌, length, map, get_or, refl, ap, subst, ◌∙◌, All, arith}
+use Rattle.std.specs.Prelude.{FitsSigned, IsSomeAnd, flat_map, nat_eq, option_map, unwrap_or}
 use Rattle.std.specs.Cmp.Lexicographic.{pointwise}
 use Rattle.std.specs.Int.{w32, w64, to_le_bytes}
 use Rattle.std.specs.List.{AllZip, enumerate_from}
 use Rattle.std.proofs.lemmas.List.{append-nil}
-use Rattle.std.proofs.lemmas.List.Elements.{All-head, All-tail}
+use Rattle.std.proofs.lemmas.List.Elements.{All-cons, All-head, All-nil, All-tail}
 use Rattle.eb_base.specs.declared.names.Place.{Place}
 use Rattle.eb_schema.specs.declared.kinds.Field.{Field}
 use Rattle.eb_schema.specs.declared.kinds.Component.{Component}
-use Rattle.eb_schema.specs.declared.kinds.Kind.{Kind}
 use Rattle.eb_schema.specs.declared.kinds.Kind.TheVariants.{I64}
 use Rattle.eb_schema.specs.declared.kinds.Mode.TheVariants as modes
 use Rattle.eb_schema.specs.Schemas.{Types, component_of}
@@ -20,124 +19,146 @@ use Rattle.eb_file.specs.declared.images.ImageRow.{ImageRow}
 use Rattle.eb_file.specs.declared.images.Image.{Image}
 use Rattle.eb_file.specs.Ascending.{put_once, each_once}
 use Rattle.eb_file.specs.Images.{IsValid, IsPlain, CellFits, ValueFits, name_cmp, names_of, types_of, zero_name, zero_names}
-use Rattle.eb_file.specs.Plain.{HoldsNumber, number_cells, number_bytes, number_archetype, number_text}
-use Rattle.eb_file.specs.Spelling.{Numbers, spelling, text_of, header, archetype, types_cmp, rows_with, column, fields_of, name_bytes, value_bytes}
+use Rattle.eb_file.specs.Plain.{HoldsNumbers, field_count, number_column, number_columns, number_archetype, number_text}
+use Rattle.eb_file.specs.Spelling.{Numbers, spelling, text_of, header, archetype, types_cmp, rows_with, column, fields_of, name_bytes, value_at, value_bytes}
 
--- ---- each row holds a number
+-- all fields of the component type are numbers of 64 bits
+abbrev pub HasNumberFields : Option Component → Type 0
+HasNumberFields o = IsSomeAnd o (λ c. All (λ field. field.kind ≡ I64) c.fields)
 
--- the values of one field, which is a number of 64 bits
-one_number : (image : Image) (fields : List Field) (values : List Stored) → map (λ field. field.kind) fields ≡ I64 ∷ [] → AllZip (λ field value. ValueFits image field.kind value) fields values
-    → (n : ℤ) × (values ≡ stored.Num n ∷ []) × FitsSigned w64 n
-one_number image [] values kinds fit = absurd (cc)
-one_number image (f ∷ []) [] kinds fit = absurd fit
-one_number image (f ∷ []) (stored.Num n ∷ []) kinds fit =
-    let kind : f.kind ≡ I64 = cc in
-    (n, refl, subst (λ k. ValueFits image k (stored.Num n)) kind fit.0)
-one_number image (f ∷ []) (stored.Link l ∷ []) kinds fit =
-    let kind : f.kind ≡ I64 = cc in
-    absurd (subst (λ k. ValueFits image k (stored.Link l)) kind fit.0)
-one_number image (f ∷ []) (v ∷ w ∷ vs) kinds fit = absurd fit.1
-one_number image (f ∷ g ∷ fs) values kinds fit = absurd (cc)
+-- the fields of a component type that may be there
+abbrev pub its_fields : Option Component → List Field
+its_fields o = unwrap_or (option_map (λ c. c.fields) o) []
 
-both_of : {P Q : Component → Type 0} (o : Option Component) → IsSomeAnd o P → IsSomeAnd o Q → (c : Component) × P c × Q c
-both_of None p q = absurd p
-both_of (Some c) p q = (c, p, q)
+-- ---- each row holds numbers
 
--- the cells of a row that has type 1 alone
-one_cell : (types : Types) (image : Image) (cells : List StoredCell) → IsSomeAnd (component_of types 1) (λ c. map (λ field. field.kind) c.fields ≡ I64 ∷ []) → All (CellFits types image) cells → map (λ cell. cell.kind) cells ≡ 1 ∷ []
-    → (n : ℤ) × (cells ≡ number_cells n) × FitsSigned w64 n
-one_cell types image [] field fit kinds = absurd (cc)
-one_cell types image (cell ∷ []) field fit kinds =
+-- so many values, all of them numbers
+record AreNumbers (count : ℕ) (values : List Stored) : Type 0 where
+  numbers : List ℤ
+  values_are : values ≡ map stored.Num numbers
+  long : length numbers ≡ count
+  range : All (FitsSigned w64) numbers
+
+one_number : (image : Image) (value : Stored) → ValueFits image I64 value → (n : ℤ) × (value ≡ stored.Num n) × FitsSigned w64 n
+one_number image (stored.Num n) fit = (n, refl, fit)
+one_number image (stored.Link l) fit = absurd fit
+
+-- the values of fields that are numbers of 64 bits
+numbers_of : (image : Image) (fields : List Field) (values : List Stored) → All (λ field. field.kind ≡ I64) fields → AllZip (λ field value. ValueFits image field.kind value) fields values → AreNumbers (length fields) values
+numbers_of image [] [] kinds fit = record { numbers = []; values_are = refl; long = refl; range = All-nil (FitsSigned w64) }
+numbers_of image [] (v ∷ vs) kinds fit = absurd fit
+numbers_of image (f ∷ fs) [] kinds fit = absurd fit
+numbers_of image (f ∷ fs) (v ∷ vs) kinds fit =
+    let kind : f.kind ≡ I64 = All-head (λ field. field.kind ≡ I64) f fs kinds in
+    let one = one_number image v (subst (λ k. ValueFits image k v) kind fit.0) in
+    let others = numbers_of image fs vs (All-tail (λ field. field.kind ≡ I64) f fs kinds) fit.1 in
+    record {
+      numbers = one.0 ∷ others.numbers;
+      values_are = λ i. one.1 i ∷ others.values_are i;
+      long = omega (arith, others.long);
+      range = All-cons (FitsSigned w64) one.0 others.numbers one.2 others.range;
+    }
+
+in_type : (image : Image) (o : Option Component) (values : List Stored) → IsSomeAnd o (λ c. (c.mode ≡ modes.Stored) × AllZip (λ field value. ValueFits image field.kind value) c.fields values) → HasNumberFields o → AreNumbers (length (its_fields o)) values
+in_type image None values fit kinds = absurd fit
+in_type image (Some c) values fit kinds = numbers_of image c.fields values kinds fit.1
+
+-- the row that has type 1 alone
+one_cell : (types : Types) (image : Image) (row : ImageRow) (cells : List StoredCell) → row.cells ≡ cells → HasNumberFields (component_of types 1) → All (CellFits types image) cells → map (λ cell. cell.kind) cells ≡ 1 ∷ [] → HoldsNumbers (field_count types) row
+one_cell types image row [] same kinds fit is = absurd (cc)
+one_cell types image row (cell ∷ []) same kinds fit is =
     let kind : cell.kind ≡ 1 = cc in
     let here : CellFits types image cell = All-head (CellFits types image) cell [] fit in
     let there = subst (λ k. IsSomeAnd (component_of types k) (λ c. (c.mode ≡ modes.Stored) × AllZip (λ field value. ValueFits image field.kind value) c.fields cell.values)) kind here in
-    let both = both_of (component_of types 1) there field in
-    let number = one_number image both.0.fields cell.values both.2 both.1.1 in
-    (number.0, λ i. record { kind = kind i; values = number.1 i } ∷ [], number.2)
-one_cell types image (cell ∷ other ∷ cells) field fit kinds = absurd (cc)
+    let held = in_type image (component_of types 1) cell.values there kinds in
+    record {
+      numbers = held.numbers;
+      cells = same ∙ (λ i. record { kind = kind i; values = held.values_are i } ∷ []);
+      long = held.long;
+      range = held.range;
+    }
+one_cell types image row (cell ∷ other ∷ cells) same kinds fit is = absurd (cc)
 
-pub each_holds_number : (types : Types) (image : Image) → IsValid types image → IsPlain types image → All HoldsNumber image.rows
-each_holds_number types image valid plain k d lt =
-    let cell = one_cell types image (get_or image.rows k d).cells plain.field (valid.rows k d lt).cells (plain.rows k d lt) in
-    record { number = cell.0; cells = cell.1; range = cell.2 }
+pub each_holds_numbers : (types : Types) (image : Image) → IsValid types image → IsPlain types image → All (HoldsNumbers (field_count types)) image.rows
+each_holds_numbers types image valid plain k d lt =
+    let row = get_or image.rows k d in
+    one_cell types image row row.cells refl (plain.fields (omega (arith, lt))) (valid.rows k d lt).cells (plain.rows k d lt)
 
 -- ---- their one archetype
 
-pub no_zeros : (rows : List ImageRow) → All HoldsNumber rows → zero_names rows ≡ []
-no_zeros [] all = refl
-no_zeros (row ∷ rows) all =
-    let here : row.cells ≡ number_cells (All-head HoldsNumber row rows all).number = (All-head HoldsNumber row rows all).cells in
-    ap (λ (cells : List StoredCell). flat_map (λ cell. flat_map zero_name cell.values) cells ++ zero_names rows) here ∙ no_zeros rows (All-tail HoldsNumber row rows all)
+no_zero : (numbers : List ℤ) → flat_map zero_name (map stored.Num numbers) ≡ []
+no_zero [] = refl
+no_zero (n ∷ ns) = no_zero ns
 
-one_type : (row : ImageRow) (rows : List ImageRow) → All HoldsNumber (row ∷ rows) → types_of row ≡ 1 ∷ []
-one_type row rows all = ap (map (λ cell. cell.kind)) (All-head HoldsNumber row rows all).cells
+-- rows with numbers alone lead nowhere
+pub no_zeros : (count : ℕ) (rows : List ImageRow) → All (HoldsNumbers count) rows → zero_names rows ≡ []
+no_zeros count [] all = refl
+no_zeros count (row ∷ rows) all =
+    let here = All-head (HoldsNumbers count) row rows all in
+    ap (λ (cells : List StoredCell). flat_map (λ cell. flat_map zero_name cell.values) cells ++ zero_names rows) here.cells
+    ∙ ap (λ (those : List _). (those ++ []) ++ zero_names rows) (no_zero here.numbers)
+    ∙ no_zeros count rows (All-tail (HoldsNumbers count) row rows all)
 
-one_archetype : (row : ImageRow) (rows : List ImageRow) → All HoldsNumber (row ∷ rows) → each_once types_cmp (map types_of (row ∷ rows)) ≡ (1 ∷ []) ∷ []
+one_type : (count : ℕ) (row : ImageRow) (rows : List ImageRow) → All (HoldsNumbers count) (row ∷ rows) → types_of row ≡ 1 ∷ []
+one_type count row rows all = ap (map (λ cell. cell.kind)) (All-head (HoldsNumbers count) row rows all).cells
+
+one_archetype : (count : ℕ) (row : ImageRow) (rows : List ImageRow) → All (HoldsNumbers count) (row ∷ rows) → each_once types_cmp (map types_of (row ∷ rows)) ≡ (1 ∷ []) ∷ []
 unfolding each_once put_once
-one_archetype row [] all = ap (λ (types : List ℕ). types ∷ []) (one_type row [] all)
-one_archetype row (next ∷ rows) all =
-    ap (put_once types_cmp (types_of row)) (one_archetype next rows (All-tail HoldsNumber row (next ∷ rows) all))
-    ∙ ap (λ (types : List ℕ). put_once types_cmp types ((1 ∷ []) ∷ [])) (one_type row (next ∷ rows) all)
+one_archetype count row [] all = ap (λ (types : List ℕ). types ∷ []) (one_type count row [] all)
+one_archetype count row (next ∷ rows) all =
+    ap (put_once types_cmp (types_of row)) (one_archetype count next rows (All-tail (HoldsNumbers count) row (next ∷ rows) all))
+    ∙ ap (λ (types : List ℕ). put_once types_cmp types ((1 ∷ []) ∷ [])) (one_type count row (next ∷ rows) all)
 
-all_rows : (rows : List ImageRow) → All HoldsNumber rows → rows_with rows (1 ∷ []) ≡ rows
-all_rows [] all = refl
-all_rows (row ∷ rows) all =
-    ap (λ (types : List ℕ). cond (pointwise nat_eq types (1 ∷ [])) (row ∷ rows_with rows (1 ∷ [])) (rows_with rows (1 ∷ []))) (one_type row rows all)
-    ∙ ap (λ (others : List ImageRow). row ∷ others) (all_rows rows (All-tail HoldsNumber row rows all))
+all_rows : (count : ℕ) (rows : List ImageRow) → All (HoldsNumbers count) rows → rows_with rows (1 ∷ []) ≡ rows
+all_rows count [] all = refl
+all_rows count (row ∷ rows) all =
+    ap (λ (types : List ℕ). cond (pointwise nat_eq types (1 ∷ [])) (row ∷ rows_with rows (1 ∷ [])) (rows_with rows (1 ∷ []))) (one_type count row rows all)
+    ∙ ap (λ (others : List ImageRow). row ∷ others) (all_rows count rows (All-tail (HoldsNumbers count) row rows all))
 
--- what cells have in the first column of type 1
-abbrev pub cells_bytes : Numbers → Kind → List StoredCell → List ℕ
-cells_bytes numbers kind cells = unwrap_or (option_map (value_bytes numbers kind) (option_and_then (λ cell. slice_get cell.values 0) (find (λ cell. cell.kind == 1) cells))) []
+-- ---- columns
 
-row_bytes : (numbers : Numbers) (kind : Kind) (row : ImageRow) → kind ≡ I64 → HoldsNumber row → cells_bytes numbers kind row.cells ≡ number_bytes row
-row_bytes numbers kind row is h = (λ i. cells_bytes numbers (is i) (h.cells i)) ∙ sym (ap (cells_bytes (record { rows = []; externals = [] }) I64) h.cells)
+-- a field of 64 bits has the same bytes, whatever references are counted by
+bytes_alike : (a b : Numbers) (value : Stored) → value_bytes a I64 value ≡ value_bytes b I64 value
+bytes_alike a b (stored.Num n) = refl
+bytes_alike a b (stored.Link l) = refl
 
-one_column : (numbers : Numbers) (field : Field) (rows : List ImageRow) → field.kind ≡ I64 → All HoldsNumber rows → column numbers rows 1 (0, field) ≡ flat_map number_bytes rows
-one_column numbers field [] is all = refl
-one_column numbers field (row ∷ rows) is all =
-    (λ i. row_bytes numbers field.kind row is (All-head HoldsNumber row rows all) i ++ column numbers rows 1 (0, field))
-    ∙ ap (λ (others : List ℕ). number_bytes row ++ others) (one_column numbers field rows is (All-tail HoldsNumber row rows all))
+one_column : (numbers : Numbers) (rows : List ImageRow) (index : ℕ) (field : Field) → field.kind ≡ I64 → column numbers rows 1 (index, field) ≡ number_column rows index
+one_column numbers rows index field kind =
+    let alike : value_bytes numbers field.kind ≡ value_bytes (record { rows = []; externals = [] }) I64 = ap (value_bytes numbers) kind ∙ (λ i v. bytes_alike numbers (record { rows = []; externals = [] }) v i) in
+    λ i. flat_map (λ row. unwrap_or (option_map (alike i) (value_at 1 index row)) []) rows
 
-record HasOneField (fields : List (ℕ × Field)) : Type 0 where
-  field : Field
-  fields_are : fields ≡ (0, field) ∷ []
-  kind_is : field.kind ≡ I64
+each_column : (numbers : Numbers) (rows : List ImageRow) (from : ℕ) (fields : List Field) → All (λ field. field.kind ≡ I64) fields → flat_map (column numbers rows 1) (enumerate_from from fields) ≡ number_columns rows from (length fields)
+each_column numbers rows from [] kinds = refl
+each_column numbers rows from (f ∷ fs) kinds =
+    let here = one_column numbers rows from f (All-head (λ field. field.kind ≡ I64) f fs kinds) in
+    let others = each_column numbers rows (from + 1) fs (All-tail (λ field. field.kind ≡ I64) f fs kinds) in
+    λ i. here i ++ others i
 
-one_field : (fields : List Field) → map (λ field. field.kind) fields ≡ I64 ∷ [] → HasOneField (enumerate_from 0 fields)
-one_field [] kinds = absurd (cc)
-one_field (f ∷ []) kinds = record { field = f; fields_are = refl; kind_is = cc }
-one_field (f ∷ g ∷ fs) kinds = absurd (cc)
-
-one_field_of : (o : Option Component) → IsSomeAnd o (λ c. map (λ field. field.kind) c.fields ≡ I64 ∷ []) → HasOneField (enumerate_from 0 (unwrap_or (option_map (λ c. c.fields) o) []))
-one_field_of None is = absurd is
-one_field_of (Some c) is = one_field c.fields is
+number_fields : (o : Option Component) → HasNumberFields o → All (λ field. field.kind ≡ I64) (its_fields o)
+number_fields None is = absurd is
+number_fields (Some c) is = is
 
 -- the archetype of type 1 over rows that hold numbers
-archetype-numbers : (types : Types) (numbers : Numbers) (rows : List ImageRow) → IsSomeAnd (component_of types 1) (λ c. map (λ field. field.kind) c.fields ≡ I64 ∷ []) → All HoldsNumber rows
-    → archetype types numbers rows (1 ∷ []) ≡ number_archetype rows
-archetype-numbers types numbers rows field all =
-    let one = one_field_of (component_of types 1) field in
+archetype-numbers : (types : Types) (numbers : Numbers) (rows : List ImageRow) → HasNumberFields (component_of types 1) → All (HoldsNumbers (field_count types)) rows
+    → archetype types numbers rows (1 ∷ []) ≡ number_archetype (field_count types) rows
+archetype-numbers types numbers rows fields all =
     let front : List ImageRow → List ℕ = λ those. 1 ∷ 1 ∷ to_le_bytes w32 (length those) ++ flat_map name_bytes (names_of those) in
-    let columns : flat_map (column numbers rows 1) (fields_of types 1) ≡ flat_map number_bytes rows =
-    ap (flat_map (column numbers rows 1)) one.fields_are ∙ append-nil _ ∙ one_column numbers one.field rows one.kind_is all in
-    (λ i. front (all_rows rows all i) ++ (flat_map (column numbers (all_rows rows all i) 1) (fields_of types 1) ++ []))
+    let same = all_rows (field_count types) rows all in
+    let columns = each_column numbers rows 0 (its_fields (component_of types 1)) (number_fields (component_of types 1) fields) in
+    (λ i. front (same i) ++ (flat_map (column numbers (same i) 1) (fields_of types 1) ++ []))
     ∙ ap (λ (back : List ℕ). front rows ++ back) (append-nil _ ∙ columns)
 
-numbers_spelled : (types : Types) (place : Place) (rows : List ImageRow) → IsSomeAnd (component_of types 1) (λ c. map (λ field. field.kind) c.fields ≡ I64 ∷ []) → All HoldsNumber rows
-    → spelling types (record { place = place; rows = rows }) ≡ number_text place rows
+numbers_spelled : (types : Types) (place : Place) (rows : List ImageRow) → (0 < length rows → HasNumberFields (component_of types 1)) → All (HoldsNumbers (field_count types)) rows
+    → spelling types (record { place = place; rows = rows }) ≡ number_text place (field_count types) rows
 unfolding spelling each_once
-numbers_spelled types place [] field all = refl
-numbers_spelled types place (row ∷ rows) field all =
+numbers_spelled types place [] fields all = refl
+numbers_spelled types place (row ∷ rows) fields all =
     let image : Image = record { place = place; rows = row ∷ rows } in
     let numbers : Numbers = record { rows = names_of (flat_map (rows_with (row ∷ rows)) ((1 ∷ []) ∷ [])); externals = [] } in
-    (λ i. text_of types image (one_archetype row rows all i) (each_once name_cmp (no_zeros (row ∷ rows) all i)))
+    (λ i. text_of types image (one_archetype (field_count types) row rows all i) (each_once name_cmp (no_zeros (field_count types) (row ∷ rows) all i)))
     ∙ append-nil _
-    ∙ ap (λ (back : List ℕ). header place 1 (length (row ∷ rows)) 0 ++ back) (append-nil _ ∙ archetype-numbers types numbers (row ∷ rows) field all)
+    ∙ ap (λ (back : List ℕ). header place 1 (length (row ∷ rows)) 0 ++ back) (append-nil _ ∙ archetype-numbers types numbers (row ∷ rows) (fields (omega arith)) all)
 
 -- the spelling of a valid plain image
-pub spelling-plain : (types : Types) (image : Image) → IsValid types image → IsPlain types image → spelling types image ≡ number_text image.place image.rows
-spelling-plain types image valid plain = numbers_spelled types image.place image.rows plain.field (each_holds_number types image valid plain)
-
-pub number_text-some : (place : Place) (rows : List ImageRow) → 0 < length rows → number_text place rows ≡ header place 1 (length rows) 0 ++ number_archetype rows
-number_text-some place [] some = absurd (omega arith)
-number_text-some place (row ∷ rows) some = refl
+pub spelling-plain : (types : Types) (image : Image) → IsValid types image → IsPlain types image → spelling types image ≡ number_text image.place (field_count types) image.rows
+spelling-plain types image valid plain = numbers_spelled types image.place image.rows plain.fields (each_holds_numbers types image valid plain)

@@ -96,7 +96,7 @@ pub record IsValid (types : Types) (image : Image) : Type 0 where
   pub rows : All (IsRow types image) image.rows
   pub externals : length (externals_of image.rows) ≤ 65536
 
--- Type 1 has one field, a whole number of 64 bits, and each row has that type alone.
+-- Each row has type 1 alone, and where there is a row, all fields of that type are whole numbers of 64 bits.
 pub record IsPlain (types : Types) (image : Image) : Type 0 where
-  pub field : IsSomeAnd (component_of types 1) (λ c. map (λ field. field.kind) c.fields ≡ I64 ∷ [])
+  pub fields : 0 < length image.rows → IsSomeAnd (component_of types 1) (λ c. All (λ field. field.kind ≡ I64) c.fields)
   pub rows : All (λ row. types_of row ≡ 1 ∷ []) image.rows

@@ -1,11 +1,12 @@
 // The spelling of an image as the bytes of a section file.
-ghost use Rattle.std.specs.Prelude.{◌≡◌, ◌≤◌, ◌++◌, length, All, flat_map, IfOk, OnOk};
+ghost use Rattle.std.specs.Prelude.{◌≡◌, ◌<◌, ◌≤◌, ◌++◌, length, All, flat_map, Some, IfOk, OnOk};
+ghost use Rattle.eb_file.specs.declared.images.Stored.TheVariants as stored;
 ghost use Rattle.eb_file.specs.Images.{IsValid, IsPlain, names_of};
-ghost use Rattle.eb_file.specs.Plain.{HoldsNumber, number_archetype, number_bytes, number_cells, number_text};
-ghost use Rattle.eb_file.specs.Spelling.{Spells, header, name_bytes, spelling};
+ghost use Rattle.eb_file.specs.Plain.{HasNumber, HoldsNumbers, field_count, number_archetype, number_bytes, number_column, number_columns, number_text};
+ghost use Rattle.eb_file.specs.Spelling.{Spells, header, name_bytes, spelling, value_at};
 
 use crate::images::{Image, ImageRow, Stored};
-use eb_base::{Memory, Name, Place};
+use eb_base::{Memory, Name, Place, TypeNo};
 use eb_schema::Schema;
 use std::alloc::Global;
 
@@ -13,13 +14,15 @@ use std::alloc::Global;
 const HEADER_BYTES: usize = 20;
 /// The bytes of an archetype with one type, before the names of its rows.
 const ARCHETYPE_BYTES: usize = 6;
-/// The bytes of a row's name and number.
-const ROW_BYTES: usize = 16;
+/// The bytes of a row's name.
+const NAME_BYTES: usize = 8;
+/// The bytes of a row's number at a field.
+const NUMBER_BYTES: usize = 8;
 
 /// The bytes of the section file that holds the image: its one spelling. The only error is want of
-/// memory, which is asked for once. Takes time and memory in proportion to the rows, 16 bytes each.
-/// The bytes are described in `docs/section-file.md`.
-#[tactic(auto, using(crate::proofs::PlainImages::each_holds_number, crate::proofs::Written::spelled, crate::proofs::Written::spells))]
+/// memory, which is asked for once. Takes time and memory in proportion to the rows times their fields,
+/// 8 bytes for each name and each value. The bytes are described in `docs/section-file.md`.
+#[tactic(auto, using(crate::proofs::PlainImages::each_holds_numbers, crate::proofs::Written::spelled, crate::proofs::Written::spells))]
 pub fn encode(alloc: Global, schema: &Schema, image: &Image) -> Result<Vec<u8>, Memory>
     requires valid { IsValid schema.now image.now }
     requires plain { IsPlain schema.now image.now }
@@ -27,26 +30,40 @@ pub fn encode(alloc: Global, schema: &Schema, image: &Image) -> Result<Vec<u8>, 
     ensures spells { IfOk result (λ v. Spells schema.now v.items image.now) }
 {
     let rows = image.rows.items();
+    let fields = fields_of_first(schema);
     let mut out = Vec::with_capacity(
         alloc,
-        HEADER_BYTES + ARCHETYPE_BYTES + ROW_BYTES * rows.len(),
+        HEADER_BYTES + ARCHETYPE_BYTES + rows.len() * (NAME_BYTES + NUMBER_BYTES * fields),
     )?;
-    put_text(&mut out, image.place, rows)?;
+    put_text(&mut out, image.place, fields, rows)?;
     Ok(out)
 }
 
-/// Adds the file of rows that have one number each.
-fn put_text(out: &mut Vec<u8>, place: Place, rows: &[ImageRow]) -> Result<(), Memory>
+/// How many fields type 1 has.
+fn fields_of_first(schema: &Schema) -> usize
+    ensures count { result ≡ field_count schema.now }
+    ensures few { result ≤ 16 }
+{
+    for component in schema.components() {
+        if component.number == TypeNo::FIRST {
+            return component.fields.len();
+        }
+    }
+    0
+}
+
+/// Adds the file of rows that have so many numbers each.
+fn put_text(out: &mut Vec<u8>, place: Place, fields: usize, rows: &[ImageRow]) -> Result<(), Memory>
     requires count { length rows.now ≤ 65536 }
-    requires numbers { All HoldsNumber rows.now }
-    ensures { OnOk result (out.new.items ≡ out.old.items ++ number_text place rows.now) }
+    requires numbers { All (HoldsNumbers fields) rows.now }
+    ensures { OnOk result (out.new.items ≡ out.old.items ++ number_text place fields rows.now) }
 {
     if rows.is_empty() {
         put_header(out, place, 0, 0)?;
         return Ok(());
     }
     put_header(out, place, 1, rows.len() as u32)?;
-    put_archetype(out, rows)?;
+    put_archetype(out, fields, rows)?;
     Ok(())
 }
 
@@ -64,16 +81,16 @@ fn put_header(out: &mut Vec<u8>, place: Place, archetypes: u32, rows: u32) -> Re
 }
 
 /// Adds the archetype of type 1 alone, with all the rows.
-fn put_archetype(out: &mut Vec<u8>, rows: &[ImageRow]) -> Result<(), Memory>
+fn put_archetype(out: &mut Vec<u8>, fields: usize, rows: &[ImageRow]) -> Result<(), Memory>
     requires count { length rows.now ≤ 65536 }
-    requires numbers { All HoldsNumber rows.now }
-    ensures { OnOk result (out.new.items ≡ out.old.items ++ number_archetype rows.now) }
+    requires numbers { All (HoldsNumbers fields) rows.now }
+    ensures { OnOk result (out.new.items ≡ out.old.items ++ number_archetype fields rows.now) }
 {
     // One type, of number 1.
     out.extend_from_slice(&[1, 1])?;
     out.extend_from_slice(&(rows.len() as u32).to_le_bytes())?;
     put_names(out, rows)?;
-    put_numbers(out, rows)?;
+    put_columns(out, fields, rows)?;
     Ok(())
 }
 
@@ -94,34 +111,46 @@ fn put_name(out: &mut Vec<u8>, name: Name) -> Result<(), Memory>
     Ok(())
 }
 
-fn put_numbers(out: &mut Vec<u8>, rows: &[ImageRow]) -> Result<(), Memory>
-    requires { All HoldsNumber rows.now }
-    ensures { OnOk result (out.new.items ≡ out.old.items ++ flat_map number_bytes rows.now) }
+/// Adds the values field by field: all rows' first ones, then all rows' second ones, and so on.
+fn put_columns(out: &mut Vec<u8>, fields: usize, rows: &[ImageRow]) -> Result<(), Memory>
+    requires { All (HoldsNumbers fields) rows.now }
+    ensures { OnOk result (out.new.items ≡ out.old.items ++ number_columns rows.now 0 fields) }
 {
-    for row in rows {
-        put_number(out, row)?;
+    for field in 0..fields {
+        put_column(out, field, rows)?;
     }
     Ok(())
 }
 
-fn put_number(out: &mut Vec<u8>, row: &ImageRow) -> Result<(), Memory>
-    requires { HoldsNumber row.now }
-    ensures { OnOk result (out.new.items ≡ out.old.items ++ number_bytes row.now) }
+/// Adds the values of one field, row by row.
+fn put_column(out: &mut Vec<u8>, field: usize, rows: &[ImageRow]) -> Result<(), Memory>
+    requires { All (HasNumber field) rows.now }
+    ensures { OnOk result (out.new.items ≡ out.old.items ++ number_column rows.now field) }
 {
-    out.extend_from_slice(&number_of(row).to_le_bytes())?;
+    for row in rows {
+        put_number(out, field, row)?;
+    }
     Ok(())
 }
 
-/// The number of a row that has one cell with one number.
-fn number_of(row: &ImageRow) -> i64
-    requires { HoldsNumber row.now }
-    ensures { row.now.cells ≡ number_cells result }
+fn put_number(out: &mut Vec<u8>, field: usize, row: &ImageRow) -> Result<(), Memory>
+    requires { HasNumber field row.now }
+    ensures { OnOk result (out.new.items ≡ out.old.items ++ number_bytes field row.now) }
+{
+    out.extend_from_slice(&number_at(field, row).to_le_bytes())?;
+    Ok(())
+}
+
+/// The number of a row at a field.
+fn number_at(field: usize, row: &ImageRow) -> i64
+    requires { HasNumber field row.now }
+    ensures { value_at 1 field row.now ≡ Some (stored.Num result) }
 {
     let [cell] = row.cells.items() else {
         unreachable!()
     };
-    let [Stored::Num(number)] = cell.values.items() else {
+    let Stored::Num(number) = cell.values.items()[field] else {
         unreachable!()
     };
-    *number
+    number
 }
