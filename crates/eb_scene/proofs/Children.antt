@@ -19,7 +19,7 @@ below_one : (j : ℕ) (b : Bool) (k : ℕ) (ks : List ℕ) → nat_cmp j k ≡ L
 below_one j true k ks here rest = (here, rest)
 below_one j false k ks here rest = rest
 
-below_children : (j : ℕ) (es : Objects) (p : ℕ) → IsBelow j (keys_of es) → IsBelow j (children_of es p)
+pub below_children : (j : ℕ) (es : Objects) (p : ℕ) → IsBelow j (keys_of es) → IsBelow j (children_of es p)
 below_children j [] p h = tt
 below_children j (e ∷ es) p h = below_one j (is_parent e.1.parent p) e.0 (children_of es p) h.0 (below_children j es p h.1)
 
@@ -76,7 +76,7 @@ module _ {X : Type 0} where
   absent_keys n [] absent = refl
   absent_keys n (e ∷ es) absent = absent_where (nat_cmp n e.0) n e es refl absent (λ h. absent_keys n es h)
 
-either : (a b : Bool) → (a || b) ≡ false → (a ≡ false) × (b ≡ false)
+pub either : (a b : Bool) → (a || b) ≡ false → (a ≡ false) × (b ≡ false)
 either true b h = absurd (true≢false h)
 either false b h = (refl, h)
 
@@ -138,7 +138,7 @@ gone_later true false n k cs h = refl
 gone_later false true n k cs h = refl
 gone_later false false n k cs h = refl
 
-some_same : {X : Type 0} (x y : X) → Some x ≡ Some y → x ≡ y
+pub some_same : {X : Type 0} (x y : X) → Some x ≡ Some y → x ≡ y
 some_same x y h = cc
 
 children_gone_where : (t : Bool) (n : ℕ) (o : Object) (e : ℕ × Object) (es : Objects) (p : ℕ) → nat_eq e.0 n ≡ t → cond t (Some e.1) (numbered es n) ≡ Some o
@@ -171,7 +171,7 @@ pub children_same : (n : ℕ) (o w : Object) (es : Objects) (p : ℕ) → w.pare
 children_same n o w [] p kept found = refl
 children_same n o w (e ∷ es) p kept found = children_same_where (is_at (nat_cmp n) e.0) n o w e es p kept found (λ h. children_same n o w es p kept h)
 
-keys_same : {X : Type 0} (n : ℕ) (es : List (ℕ × X)) (w : X) → keys_of (set_value (is_at (nat_cmp n)) es w) ≡ keys_of es
+pub keys_same : {X : Type 0} (n : ℕ) (es : List (ℕ × X)) (w : X) → keys_of (set_value (is_at (nat_cmp n)) es w) ≡ keys_of es
 keys_same n [] w = refl
 keys_same {X} n (e ∷ es) w = keys_same_where (is_at (nat_cmp n) e.0) n e es w (keys_same n es w)
   where

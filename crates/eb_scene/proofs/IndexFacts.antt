@@ -1,16 +1,19 @@
 -- What is kept beside the objects of a scene stays right through each change.
-use Rattle.std.proofs.Common.{◌≡◌, ℕ, List, Bool, true, false, cond, Option, Some, None, Result, Ok, Err, refl, sym, ap, ◌∙◌}
+use Rattle.std.proofs.Common.{◌≡◌, ℕ, List, Bool, true, false, cond, nat_eq, IsPermutation, subst, Option, Some, None, Result, Ok, Err, refl, sym, ap, ◌∙◌}
 use Rattle.std.specs.Prelude.{OnOk, OnErr, is_some, option_and_then}
 use Rattle.std.specs.BTreeMap.{is_at}
 use Rattle.std.specs.List.Sorted.{IsStrictlySortedBy}
 use Rattle.std.specs.Map.{keys_of, set_value}
 use Rattle.std.specs.Ordering.{nat_cmp}
 use Rattle.eb_scene.specs.declared.objects.Object.{Object}
-use Rattle.eb_scene.specs.Numbers.{has_number, with_number, without_number}
+use Rattle.eb_scene.specs.Numbers.{has_number, with_number, without_number, without_numbers}
+use Rattle.eb_scene.specs.Trees.{without_all}
+use Rattle.eb_scene.proofs.Removing.{without_same, keys_without}
+use Rattle.std.proofs.lemmas.List.Sorted.{list_any-IsPermutation}
 use Rattle.eb_scene.specs.Projects.{Objects, Numbered, numbered, is_parent, parent_at, children_of}
-use Rattle.eb_scene.specs.Tables.{IsIndex, list_at, with_numbered, without_numbered, set_found, changed, changed_list}
+use Rattle.eb_scene.specs.Tables.{IsIndex, ListsChildren, list_at, with_numbered, without_numbered, set_found, changed, changed_list}
 use Rattle.eb_scene.specs.Edits.{parented}
-use Rattle.eb_scene.proofs.Children.{children_put, keys_put, children_gone, keys_gone, children_moved, children_changed_alike, keys_changed, absent_keys, absent_children, undone}
+use Rattle.eb_scene.proofs.Children.{children_put, keys_put, children_gone, children_moved, children_changed_alike, keys_changed, absent_keys, absent_children, undone}
 
 -- lists is below with a change of the list of one parent
 abbrev pub Relists : (List ℕ → List ℕ) → Object → Numbered (List ℕ) → Numbered (List ℕ) → Type 0
@@ -23,11 +26,19 @@ index_put n o es below lists all index sorted absent hung = record {
   numbers = ap (λ ks. with_number ks n) index.numbers ∙ sym (keys_put n o es);
 }
 
-pub index_gone : (n : ℕ) (o : Object) (es : Objects) (below lists : Numbered (List ℕ)) (all : List ℕ) → IsIndex es below all → numbered es n ≡ Some o
-    → Relists (λ ks. without_number ks n) o below lists → IsIndex (without_numbered es n) lists (without_number all n)
-index_gone n o es below lists all index found unhung = record {
-  lists = λ p. unhung p ∙ ap (λ ks. cond (is_parent o.parent p) (without_number ks n) ks) (index.lists p) ∙ sym (children_gone n o es p found);
-  numbers = ap (λ ks. without_number ks n) index.numbers ∙ sym (keys_gone n es);
+pub lists_gone : (n : ℕ) (o : Object) (es : Objects) (below lists : Numbered (List ℕ)) → ListsChildren es below → numbered es n ≡ Some o
+    → Relists (λ ks. without_number ks n) o below lists → ListsChildren (without_numbered es n) lists
+lists_gone n o es below lists kept found unhung p =
+    unhung p ∙ ap (λ ks. cond (is_parent o.parent p) (without_number ks n) ks) (kept p) ∙ sym (children_gone n o es p found)
+
+-- many objects taken out, and their numbers in another order
+pub index_without : (gone sorted : List ℕ) (es : Objects) (lists : Numbered (List ℕ)) (all : List ℕ) → all ≡ keys_of es → IsStrictlySortedBy nat_cmp all → IsPermutation gone sorted
+    → ListsChildren (without_all es gone) lists → IsIndex (without_all es gone) lists (without_numbers all sorted)
+index_without gone sorted es lists all numbers order moved kept = record {
+  lists = kept;
+  numbers = without_same all sorted gone (λ k. sym (list_any-IsPermutation (λ n. nat_eq n k) gone sorted moved))
+      ∙ ap (λ ks. without_numbers ks gone) numbers
+      ∙ keys_without gone es (subst (IsStrictlySortedBy nat_cmp) numbers order);
 }
 
 pub index_alike : (f : Object → Object) → ((o : Object) → (f o).parent ≡ o.parent) → (es : Objects) (n : ℕ) (below : Numbered (List ℕ)) (all : List ℕ) → IsIndex es below all → IsIndex (changed f es n) below all

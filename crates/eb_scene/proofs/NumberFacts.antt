@@ -1,10 +1,15 @@
 -- What taking a number out of an ascending list does.
-use Rattle.std.proofs.Common.{◌≡◌, subst, ℕ, zero, suc, ◌<◌, List, [], ◌∷◌, length, map, Bool, true, false, cond, nat_eq, Option, Some, None, true≢false, Result, Ok, Err, Ordering, Less, Equal, Greater, refl, sym, ap, ◌∙◌, arith}
+use Rattle.std.proofs.Common.{◌≡◌, subst, ℕ, zero, suc, ◌<◌, ◌≤◌, get_or, nat_lt, List, [], ◌∷◌, length, map, Bool, true, false, cond, nat_eq, Option, Some, None, true≢false, Result, Ok, Err, Ordering, Less, Equal, Greater, refl, sym, ap, ◌∙◌, arith}
 use Rattle.std.specs.Prelude.{is_ok}
 use Rattle.std.specs.List.{insert, remove}
-use Rattle.std.specs.List.Sorted.{IsStrictlySortedBy, IsSearchInRange, IsBinarySearchResult}
+use Rattle.std.specs.List.Sorted.{IsStrictlySortedBy, IsSorted, IsSearchInRange, IsBinarySearchResult}
 use Rattle.std.specs.Ordering.{nat_cmp, match_ordering}
+use Rattle.std.specs.Result.{MatchResult}
 use Rattle.std.proofs.lemmas.Bool.Decides.{nat_tests}
+use Rattle.std.proofs.lemmas.List.Folds.{list_any_at, list_any_none}
+use Rattle.std.proofs.lemmas.List.Elements.{All-from_get_or}
+use Rattle.std.proofs.lemmas.List.Sorted as lists
+use Rattle.std.proofs.lemmas.List.Sorted.{IsNonDecreasingBy-from_sort}
 use Rattle.eb_schema.specs.TypeOrder.{next, place_of}
 use Rattle.eb_schema.proofs.SetFacts.{map_same}
 use Rattle.eb_schema.proofs.TypeOrderFacts.{IsBelow, has_placed, put_at, put_at_place, same_with, searched, sorted_with}
@@ -114,3 +119,25 @@ same_parents (Some o) (Some p) q a b = let same : o ≡ p = grind (arith, nat_te
 pub relisted : (old new : Option ℕ) (n q : ℕ) (ks : List ℕ) → (old ≡ new → ⊥)
     → cond (is_parent old q) (without_number (cond (is_parent new q) (with_number ks n) ks) n) (cond (is_parent new q) (with_number ks n) ks) ≡ changed_list n (is_parent old q) (is_parent new q) ks
 relisted old new n q ks apart = relisted_where (is_parent old q) (is_parent new q) n ks (λ a b. apart (same_parents old new q a b))
+
+-- whether a search finds one, where the list may have a number more than once
+apart_where : (t : Bool) (k i x n : ℕ) → nat_lt k i ≡ t → (k < i → x < n) → (i ≤ k → n < x) → nat_eq x n ≡ false
+apart_where true k i x n is before behind =
+    let lt : k < i = grind (arith, nat_tests) in
+    let less : x < n = before lt in
+    grind (arith, nat_tests)
+apart_where false k i x n is before behind =
+    let le : i ≤ k = grind (arith, nat_tests) in
+    let more : n < x = behind le in
+    grind (arith, nat_tests)
+
+any_where : (ks : List ℕ) (n : ℕ) (r : Result ℕ ℕ)
+    → MatchResult r (λ i. (i < length ks) × (get_or ks i 0 ≡ n)) (λ i. (i ≤ length ks) × ((k : ℕ) → k < i → get_or ks k 0 < n) × ((k : ℕ) → i ≤ k → k < length ks → n < get_or ks k 0)) → is_ok r ≡ has_number ks n
+any_where ks n (Ok i) h =
+    let here : nat_eq (get_or ks i 0) n ≡ true = grind (arith, nat_tests, h.1) in
+    sym (list_any_at (λ k. nat_eq k n) ks i 0 h.0 here)
+any_where ks n (Err i) h =
+    sym (list_any_none (λ k. nat_eq k n) ks (All-from_get_or (λ k. nat_eq k n ≡ false) ks 0 (λ k lt. apart_where (nat_lt k i) k i (get_or ks k 0) n refl (λ b. h.1 k b) (λ b. h.2 k b lt))))
+
+pub any_found : (ks : List ℕ) (n : ℕ) (r : Result ℕ ℕ) → IsBinarySearchResult (λ k. nat_cmp k n) ks r → IsSorted nat_cmp ks → is_ok r ≡ has_number ks n
+any_found ks n r is sorted = any_where ks n r (lists.searched ks n r is (λ i j le lt. IsNonDecreasingBy-from_sort (λ k. k) ks sorted i j 0 le lt))

@@ -31,14 +31,14 @@ abbrev pub whole : Kind → ℤ → Option Given
 whole I8 z = cond (lies (negsuc 127) (pos 127) z) (Some (given.Num z)) None
 whole I16 z = cond (lies (negsuc 32767) (pos 32767) z) (Some (given.Num z)) None
 whole I32 z = cond (lies (negsuc 2147483647) (pos 2147483647) z) (Some (given.Num z)) None
-whole I64 z = Some (given.Num z)
+whole I64 z = cond (fits_i64 z) (Some (given.Num z)) None
 whole Fix z = cond (fits_i64 (z *ℤ pos 65536)) (Some (given.Num (z *ℤ pos 65536))) None
 whole Ref z = cond (is_number z) (Some (given.Object (size z))) None
 whole Asset z = cond (is_number z) (Some (given.Asset (size z))) None
 
 -- fixed units in a field
 abbrev pub units : Kind → ℤ → Option Given
-units Fix z = Some (given.Num z)
+units Fix z = cond (fits_i64 z) (Some (given.Num z)) None
 units I8 z = None
 units I16 z = None
 units I32 z = None

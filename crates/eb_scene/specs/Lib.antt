@@ -7,3 +7,5 @@ pub mod Parts
 pub mod Fits
 pub mod Edits
 pub mod Touched
+pub mod Validity
+pub mod Rebuilding

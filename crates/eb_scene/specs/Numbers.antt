@@ -1,5 +1,5 @@
 -- Ascending lists of numbers.
-use Rattle.std.specs.Prelude.{ℕ, Bool, cond, ◌==◌, List, [], ◌∷◌}
+use Rattle.std.specs.Prelude.{ℕ, Bool, cond, not, ◌==◌, List, [], ◌∷◌, filter}
 use Rattle.std.specs.List.{list_any}
 use Rattle.eb_schema.specs.Rows.{with_item}
 
@@ -19,3 +19,7 @@ without_item number (x ∷ xs) n = cond (number x == n) xs (x ∷ without_item n
 -- a list without a number
 abbrev pub without_number : List ℕ → ℕ → List ℕ
 without_number ns n = without_item (λ k. k) ns n
+
+-- a list without these numbers
+abbrev pub without_numbers : List ℕ → List ℕ → List ℕ
+without_numbers ns gone = filter (λ n. not (has_number gone n)) ns

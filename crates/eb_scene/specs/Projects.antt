@@ -1,10 +1,11 @@
 -- What a project is: a schema, scenes under their numbers, and assets under theirs. A scene is its objects
 -- under their numbers. All are in ascending order of the numbers, each number once.
-use Rattle.std.specs.Prelude.{◌≡◌, ℕ, zero, suc, Bool, false, cond, ◌==◌, List, [], ◌∷◌, Option, Some, None, option_map, option_and_then, find}
+use Rattle.std.specs.Prelude.{ℕ, zero, suc, Bool, false, cond, ◌==◌, List, [], ◌∷◌, Option, Some, None, option_map, option_and_then, find}
 use Rattle.std.specs.Option.{unwrap_or}
 use Rattle.std.specs.Map.{lookup, keys_of}
 use Rattle.std.specs.BTreeMap.{is_at}
 use Rattle.std.specs.Ordering.{nat_cmp}
+use Rattle.std.specs.List.Sorted.{IsStrictlySortedBy}
 use Rattle.eb_schema.specs.Schemas.{Types}
 use Rattle.eb_scene.specs.declared.objects.Object.{Object}
 use Rattle.eb_scene.specs.declared.objects.Part.{Part}
@@ -84,3 +85,9 @@ part_in g s n kind = option_and_then (λ o. part_of o.components kind) (object_i
 -- the section of an object that is there
 abbrev pub section_in : Content → ℕ → ℕ → Option ℕ
 section_in g s n = option_map (λ o. section (objects_of g s) n) (object_in g s n)
+
+-- whether all lists of a project ascend: the scenes, the objects of each, and the assets
+pub record IsAscending (g : Content) : Type 0 where
+  pub scenes : IsStrictlySortedBy nat_cmp (keys_of g.scenes)
+  pub objects : (s : ℕ) → IsStrictlySortedBy nat_cmp (keys_of (objects_of g s))
+  pub assets : IsStrictlySortedBy nat_cmp (keys_of g.assets)

@@ -1,5 +1,5 @@
 -- What the crate keeps beside the objects of a scene, and changes to a list of things under numbers.
-use Rattle.std.specs.Prelude.{◌≡◌, ℕ, Bool, true, false, cond, List, [], Option, Some, None}
+use Rattle.std.specs.Prelude.{◌≡◌, ℕ, Bool, true, false, List, [], Option, Some, None}
 use Rattle.std.specs.Option.{unwrap_or}
 use Rattle.std.specs.Map.{remove_entry, set_value, keys_of}
 use Rattle.std.specs.BTreeMap.{is_at, insert_entry}
@@ -37,7 +37,11 @@ changed_list n true false ks = without_number ks n
 changed_list n false true ks = with_number ks n
 changed_list n false false ks = ks
 
+-- the children of each object are kept
+abbrev pub ListsChildren : Objects → Numbered (List ℕ) → Type 0
+ListsChildren es below = (p : ℕ) → list_at below p ≡ children_of es p
+
 -- what is kept beside the objects of a scene: the children of each, and all numbers
 pub record IsIndex (es : Objects) (below : Numbered (List ℕ)) (all : List ℕ) : Type 0 where
-  pub lists : (p : ℕ) → list_at below p ≡ children_of es p
+  pub lists : ListsChildren es below
   pub numbers : all ≡ keys_of es

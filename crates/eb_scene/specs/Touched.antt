@@ -36,6 +36,16 @@ abbrev pub moved_keys : ℕ → ℕ → Option ℕ → Option Objects → List K
 moved_keys s n parent None = []
 moved_keys s n parent (Some es) = (key.Parent s n ∷ children_key s (parent_at es n)) ++ children_key s parent
 
+-- the objects that go with one, itself first
+abbrev pub gone_from : ℕ → Option Objects → List ℕ
+gone_from n None = []
+gone_from n (Some es) = subtree most_depth es (n ∷ [])
+
+-- the objects that an edit takes out
+abbrev pub objects_gone : Content → Edit → List ℕ
+objects_gone g (edit.RemoveObject s n) = gone_from n (numbered g.scenes s)
+objects_gone g _ = []
+
 -- the keys that an edit touches, also where the new answer equals the old one
 abbrev pub touched : Content → Edit → List Key
 touched g (edit.AddScene s) = []

@@ -12,7 +12,7 @@ use std::alloc::Global;
 use std::collections::BTreeMap;
 use std::marker::Model;
 
-/// A list of numbers under each number. Contracts see all that were ever begun.
+/// A list of numbers under each number. Contracts see those that are kept: a list that empties is forgotten.
 #[derive(Drop)]
 pub struct Below {
     lists: BTreeMap<u32, Numbers>,
@@ -76,13 +76,30 @@ impl Below {
     }
 
     /// Takes a number out of a list. Takes no memory.
-    fn remove(&mut self, over: u32, number: u32)
+    fn take(&mut self, over: u32, number: u32)
         ensures { (q : ℕ) → list_at self.new q ≡ cond (over == q) (without_number (list_at self.old q) number) (list_at self.old q) }
     {
         match self.lists.get_mut(&over) {
             Some(list) => list.remove(number),
             None => {}
         }
+    }
+
+    /// Forgets a list that is empty. Takes no memory.
+    fn tidy(&mut self, over: u32)
+        ensures { (q : ℕ) → list_at self.new q ≡ list_at self.old q }
+    {
+        if self.at(over).is_empty() {
+            self.lists.remove(&over);
+        }
+    }
+
+    /// Takes a number out of a list, and forgets the list when it was the last one. Takes no memory.
+    fn remove(&mut self, over: u32, number: u32)
+        ensures { (q : ℕ) → list_at self.new q ≡ cond (over == q) (without_number (list_at self.old q) number) (list_at self.old q) }
+    {
+        self.take(over, number);
+        self.tidy(over);
     }
 
     /// Adds a number to the list of its parent, if it has one. Where there is no memory, nothing changes.

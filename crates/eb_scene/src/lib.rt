@@ -7,9 +7,11 @@ mod component_edits;
 pub mod edits;
 mod fits;
 pub mod keys;
+pub mod laws;
 mod numbers;
 pub mod objects;
 mod parts;
+pub mod project_laws;
 pub mod projects;
 mod scene_edits;
 mod scenes;
@@ -21,3 +23,10 @@ pub use edits::{Edit, EditFault, Raw, RawField};
 pub use keys::Key;
 pub use objects::{Given, Object, Part};
 pub use projects::Project;
+
+#[cfg(test)]
+mod test_project;
+#[cfg(test)]
+mod tests;
+#[cfg(test)]
+mod value_tests;

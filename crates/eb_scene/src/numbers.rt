@@ -1,9 +1,9 @@
 // Ascending lists of numbers.
 ghost use Rattle.std.specs.Prelude.{◌≡◌, [], OnOk, OnErr, length};
-ghost use Rattle.std.specs.List.Sorted.{IsStrictlySortedBy, IsSearchInRange};
+ghost use Rattle.std.specs.List.Sorted.{IsStrictlySortedBy, IsSorted, IsSearchInRange};
 ghost use Rattle.std.specs.Ordering.{nat_cmp};
 ghost use Rattle.eb_schema.specs.TypeOrder.{place_of};
-ghost use Rattle.eb_scene.specs.Numbers.{with_number, without_number};
+ghost use Rattle.eb_scene.specs.Numbers.{has_number, with_number, without_number, without_numbers};
 
 use eb_base::Memory;
 use std::alloc::Global;
@@ -34,6 +34,13 @@ fn place(list: &[u32], number: u32) -> Result<usize, usize>
     ensures bound { IsSearchInRange result (length list.now) }
 {
     list.binary_search(&number)
+}
+
+/// Whether a number is in an ascending list.
+fn has(list: &[u32], number: u32) -> bool
+    ensures { IsSorted nat_cmp list.now → result ≡ has_number list.now number }
+{
+    list.binary_search(&number).is_ok()
 }
 
 impl Numbers {
@@ -70,13 +77,36 @@ impl Numbers {
 
     /// Takes a number away, if it is there. Takes no memory.
     pub fn remove(&mut self, number: u32)
-        ensures { self.new ≡ without_number self.old number }
+        ensures removed { self.new ≡ without_number self.old number }
+        ensures order { IsStrictlySortedBy nat_cmp self.old }
     {
         match place(self.list.as_slice(), number) {
             Ok(at) => {
                 self.list.remove(at);
             }
             Err(_) => {}
+        }
+    }
+
+    /// Takes these numbers away, ascending, in one pass. Takes no memory.
+    fn remove_many(&mut self, gone: &[u32])
+        requires { IsSorted nat_cmp gone.now }
+        ensures removed { self.new ≡ without_numbers self.old gone.now }
+        ensures order { IsStrictlySortedBy nat_cmp self.old }
+    {
+        self.list.retain(|number| !has(gone, *number));
+    }
+
+    /// Takes these numbers away, ascending, those that are there. Takes no memory.
+    pub fn remove_all(&mut self, gone: &[u32])
+        requires { IsSorted nat_cmp gone.now }
+        ensures removed { self.new ≡ without_numbers self.old gone.now }
+        ensures order { IsStrictlySortedBy nat_cmp self.old }
+    {
+        if gone.len() == 1 {
+            self.remove(gone[0]);
+        } else {
+            self.remove_many(gone);
         }
     }
 }

@@ -1,12 +1,15 @@
 // The project: what can be asked of it, and its edits.
-ghost use Rattle.std.specs.Prelude.{◌≡◌, [], is_some, option_map, IfOk, OnOk, OnErr};
+ghost use Rattle.std.specs.Prelude.{◌≡◌, [], is_some, length, option_map, IfOk, OnOk, OnErr};
 ghost use Rattle.std.specs.Option.{option_copied};
 ghost use Rattle.std.specs.Map.{keys_of};
+ghost use Rattle.std.specs.List.Sorted.{IsStrictlySortedBy};
+ghost use Rattle.std.specs.Ordering.{nat_cmp};
 ghost use Rattle.eb_scene.specs.declared.keys.Key.TheVariants as key;
 ghost use Rattle.eb_scene.specs.Projects.{numbered, objects_of, object_in, part_in, section_in};
 ghost use Rattle.eb_scene.specs.Tables.{with_numbered};
 ghost use Rattle.eb_scene.specs.Edits.{Tells, scene_added, scene_removed, on_scene, object_added, object_removed, parent_set, section_set, component_put, component_removed, field_set, asset_put, asset_removed, asset_field_set, edited};
-ghost use Rattle.eb_scene.specs.Touched.{touched, removed_keys, moved_keys};
+ghost use Rattle.eb_scene.specs.Touched.{touched, removed_keys, moved_keys, objects_gone, gone_from};
+ghost use Rattle.eb_scene.specs.Validity.{IsSceneNumber, IsNumber, IsValid, IsEdit};
 ghost use Rattle.eb_scene.specs.Answers.{answer, Values, Above, Below, There};
 
 use crate::assets::Assets;
@@ -19,7 +22,7 @@ use crate::parts::part_of;
 use crate::scene_edits::{add_object, remove_object, set_parent, set_section};
 use crate::scenes::Scene;
 use crate::touching::{added_keys, moved_keys, part_key, removed_keys, single_key};
-use crate::tree::section;
+use crate::tree::{MOST_DEPTH, section, subtree};
 use eb_base::{AuthorNo, Memory};
 use eb_schema::Schema;
 use std::alloc::Global;
@@ -29,7 +32,8 @@ use std::marker::Model;
 /// Most assets of a project.
 const MOST_ASSETS: usize = 4096;
 
-/// A project: a schema, scenes and assets. Contracts see these, all under their numbers in ascending order.
+/// A project: a schema, scenes and assets. Contracts see these, all under their numbers in ascending order, and know
+/// that the project is valid.
 #[derive(Drop)]
 pub struct Project {
     schema: Schema,
@@ -40,10 +44,13 @@ pub struct Project {
 
 impl Model for Project {
     ghost use Rattle.eb_scene.specs.Projects.{Content};
+    ghost use Rattle.eb_scene.specs.Validity.{IsValid};
 
     ghost Value = { Content };
 
     ghost view = { λ p. record { schema = p.schema; scenes = p.scenes.entries; assets = p.assets } };
+
+    ghost invariant = { λ p. IsValid (record { schema = p.schema; scenes = p.scenes.entries; assets = p.assets }) };
 }
 
 impl Project {
@@ -61,7 +68,8 @@ impl Project {
 
     /// The schema. Takes no memory.
     pub fn schema(&self) -> &Schema
-        ensures { result.now ≡ self.now.schema }
+        ensures schema { result.now ≡ self.now.schema }
+        ensures valid { IsValid self.now }
     {
         &self.schema
     }
@@ -71,6 +79,23 @@ impl Project {
         ensures { result ≡ is_some (numbered self.now.scenes scene) }
     {
         self.scenes.get(&scene).is_some()
+    }
+
+    /// The numbers of the scenes, ascending.
+    pub fn scenes(&self) -> Result<Vec<u8>, Memory>
+        ensures numbers { IfOk result (λ scenes. scenes.items ≡ keys_of self.now.scenes) }
+        ensures order { IsStrictlySortedBy nat_cmp (keys_of self.now.scenes) }
+    {
+        let scenes = self.scenes.keys().copied().collect(self.alloc)?;
+        Ok(scenes)
+    }
+
+    /// How many scenes there are. Takes no memory. Tells callers that the project is valid, as every project is.
+    pub fn scene_count(&self) -> usize
+        ensures count { result ≡ length self.now.scenes }
+        ensures valid { IsValid self.now }
+    {
+        self.scenes.len()
     }
 
     /// The numbers of the objects of a scene, ascending; none where the scene isn't there. Takes no memory.
@@ -154,6 +179,7 @@ impl Project {
 
     /// Begins a scene. Where there is no memory, nothing changes.
     fn begin_scene(&mut self, scene: u8) -> Result<(), Memory>
+        requires { IsSceneNumber scene }
         ensures ok { OnOk result (self.new ≡ record self.old { scenes = with_numbered self.old.scenes scene [] }) }
         ensures err { OnErr result (self.new ≡ self.old) }
     {
@@ -163,6 +189,7 @@ impl Project {
 
     /// Makes an empty scene. `SceneTaken` comes exactly where it is there.
     fn add_scene(&mut self, scene: u8) -> Result<(), EditFault>
+        requires { IsSceneNumber scene }
         ensures { Tells result self.old self.new (scene_added self.old scene) }
     {
         if self.has_scene(scene) {
@@ -191,6 +218,7 @@ impl Project {
         parent: Option<u32>,
         section: Option<u32>,
     ) -> Result<(), EditFault>
+        requires { IsNumber object }
         ensures { Tells result self.old self.new (on_scene self.old scene (λ es. object_added es object parent section)) }
     {
         match self.scenes.get_mut(&scene) {
@@ -209,12 +237,13 @@ impl Project {
         }
     }
 
-    /// Takes an object away, and all below it.
-    fn remove_object(&mut self, scene: u8, object: u32) -> Result<(), EditFault>
+    /// Takes an object away, and all below it, which are in `gone`.
+    fn remove_object(&mut self, scene: u8, object: u32, gone: Vec<u32>) -> Result<(), EditFault>
+        requires { gone.items ≡ gone_from object (numbered self.old.scenes scene) }
         ensures { Tells result self.old self.new (on_scene self.old scene (λ es. object_removed es object)) }
     {
         match self.scenes.get_mut(&scene) {
-            Some(found) => remove_object(found, self.alloc, object),
+            Some(found) => remove_object(found, object, gone),
             None => Err(EditFault::NoScene),
         }
     }
@@ -274,6 +303,7 @@ impl Project {
 
     /// Makes an asset, in place of the one of the number if there is one.
     fn put_asset(&mut self, asset: u32, fields: &[RawField]) -> Result<(), EditFault>
+        requires { IsNumber asset }
         ensures { Tells result self.old self.new (asset_put self.old asset fields.now) }
     {
         let values = fitted(self.alloc, self.schema.asset_fields(), fields)?;
@@ -307,8 +337,32 @@ impl Project {
         Ok(())
     }
 
-    /// The keys that an edit touches.
-    fn touched(&self, edit: &Edit) -> Result<Vec<Key>, Memory>
+    /// The objects that an edit takes out.
+    fn gone(&self, edit: &Edit) -> Result<Vec<u32>, Memory>
+        ensures { IfOk result (λ all. all.items ≡ objects_gone self.now edit.now) }
+    {
+        match edit {
+            Edit::RemoveObject { scene, object } => self.gone_from(*scene, *object),
+            _ => Ok(Vec::new(self.alloc)),
+        }
+    }
+
+    /// The objects that go with one, itself first.
+    fn gone_from(&self, scene: u8, object: u32) -> Result<Vec<u32>, Memory>
+        ensures { IfOk result (λ all. all.items ≡ gone_from object (numbered self.now.scenes scene)) }
+    {
+        match self.scenes.get(&scene) {
+            Some(found) => {
+                let all = subtree(found, self.alloc, MOST_DEPTH, object)?;
+                Ok(all)
+            }
+            None => Ok(Vec::new(self.alloc)),
+        }
+    }
+
+    /// The keys that an edit touches that takes these objects out.
+    fn touched(&self, edit: &Edit, gone: &[u32]) -> Result<Vec<Key>, Memory>
+        requires { gone.now ≡ objects_gone self.now edit.now }
         ensures { IfOk result (λ keys. keys.items ≡ touched self.now edit.now) }
     {
         let alloc = self.alloc;
@@ -322,7 +376,7 @@ impl Project {
                 parent,
                 ..
             } => added_keys(alloc, *scene, *object, *parent),
-            Edit::RemoveObject { scene, object } => self.removed(*scene, *object),
+            Edit::RemoveObject { scene, object } => self.removed(*scene, *object, gone),
             Edit::SetParent {
                 scene,
                 object,
@@ -352,12 +406,13 @@ impl Project {
     }
 
     /// The keys that go with an object and all below it.
-    fn removed(&self, scene: u8, object: u32) -> Result<Vec<Key>, Memory>
+    fn removed(&self, scene: u8, object: u32, gone: &[u32]) -> Result<Vec<Key>, Memory>
+        requires { gone.now ≡ gone_from object (numbered self.now.scenes scene) }
         ensures { IfOk result (λ keys. keys.items ≡ removed_keys scene object (numbered self.now.scenes scene)) }
     {
         match self.scenes.get(&scene) {
             Some(found) => {
-                let keys = removed_keys(self.alloc, found, scene, object)?;
+                let keys = removed_keys(self.alloc, found, scene, object, gone)?;
                 Ok(keys)
             }
             None => Ok(Vec::new(self.alloc)),
@@ -377,8 +432,10 @@ impl Project {
         }
     }
 
-    /// Does an edit.
-    fn apply(&mut self, edit: &Edit) -> Result<(), EditFault>
+    /// Does an edit that takes these objects out.
+    fn apply(&mut self, edit: &Edit, gone: Vec<u32>) -> Result<(), EditFault>
+        requires fits { IsEdit edit.now }
+        requires gone { gone.items ≡ objects_gone self.old edit.now }
         ensures { Tells result self.old self.new (edited self.old edit.now) }
     {
         match edit {
@@ -390,7 +447,7 @@ impl Project {
                 parent,
                 section,
             } => self.add_object(*scene, *object, *parent, *section),
-            Edit::RemoveObject { scene, object } => self.remove_object(*scene, *object),
+            Edit::RemoveObject { scene, object } => self.remove_object(*scene, *object, gone),
             Edit::SetParent {
                 scene,
                 object,
@@ -430,13 +487,16 @@ impl Project {
     }
 
     /// Does an edit, and answers the keys that it touched. Otherwise it answers the first rule that the edit breaks,
-    /// in the order of `EditFault`, and nothing changes.
+    /// in the order of `EditFault`, and nothing changes. The edit's scene is 1 to 16, and its object and its asset
+    /// aren't 0.
     pub fn edit(&mut self, edit: &Edit) -> Result<Vec<Key>, EditFault>
+        requires { IsEdit edit.now }
         ensures edited { Tells result self.old self.new (edited self.old edit.now) }
         ensures touched { IfOk result (λ keys. keys.items ≡ touched self.old edit.now) }
     {
-        let keys = self.touched(edit)?;
-        self.apply(edit)?;
+        let gone = self.gone(edit)?;
+        let keys = self.touched(edit, &gone)?;
+        self.apply(edit, gone)?;
         Ok(keys)
     }
 }

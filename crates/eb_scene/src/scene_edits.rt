@@ -1,13 +1,13 @@
 // Edits of the objects of one scene, each with its refusals in order.
 ghost use Rattle.std.specs.Prelude.{◌≡◌, ◌+◌, [], ◌∷◌, false, nat_le, nat_lt, length, IfOk};
-ghost use Rattle.eb_scene.specs.Trees.{height};
+ghost use Rattle.eb_scene.specs.Trees.{height, subtree};
 ghost use Rattle.eb_scene.specs.Projects.{above, most_depth};
 ghost use Rattle.eb_scene.specs.Edits.{Tells, is_past, is_there, object_added, section_set, parent_set, object_removed};
 
 use crate::edits::EditFault;
 use crate::objects::Object;
 use crate::scenes::Scene;
-use crate::tree::{MOST_DEPTH, depth, height, meets, subtree, take_all};
+use crate::tree::{MOST_DEPTH, depth, height, meets};
 use eb_base::{Items, Memory};
 use std::alloc::Global;
 
@@ -142,14 +142,14 @@ pub fn set_parent(
     Ok(())
 }
 
-/// Takes an object out, and all below it.
-pub fn remove_object(scene: &mut Scene, alloc: Global, number: u32) -> Result<(), EditFault>
+/// Takes an object out, and all below it, which are in `gone`. Takes no memory.
+pub fn remove_object(scene: &mut Scene, number: u32, gone: Vec<u32>) -> Result<(), EditFault>
+    requires { gone.items ≡ subtree most_depth scene.old (number ∷ []) }
     ensures { Tells result scene.old scene.new (object_removed scene.old number) }
 {
     if !scene.has(number) {
         return Err(EditFault::NoObject);
     }
-    let all = subtree(scene, alloc, MOST_DEPTH, number)?;
-    take_all(scene, &all);
+    scene.take_all(gone);
     Ok(())
 }

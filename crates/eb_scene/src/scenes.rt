@@ -5,7 +5,8 @@ ghost use Rattle.std.specs.Map.{keys_of};
 ghost use Rattle.std.specs.Ordering.{nat_cmp};
 ghost use Rattle.std.specs.List.Sorted.{IsStrictlySortedBy};
 ghost use Rattle.eb_scene.specs.Projects.{numbered, parent_at, mark_at, children_of, above, first_mark, section};
-ghost use Rattle.eb_scene.specs.Tables.{with_numbered, without_numbered, changed};
+ghost use Rattle.eb_scene.specs.Tables.{with_numbered, without_numbered, changed, ListsChildren};
+ghost use Rattle.eb_scene.specs.Trees.{without_all};
 ghost use Rattle.eb_scene.specs.Edits.{marked, parented, with_part, without_part, with_value};
 
 use crate::below::Below;
@@ -34,6 +35,29 @@ impl Model for Scene {
     ghost view = { λ s. s.objects };
 
     ghost invariant = { λ s. IsIndex s.objects s.below s.numbers };
+}
+
+/// Takes the object of a number out, and the number out of the list of its parent, if it is there. Takes no memory.
+fn take_out(objects: &mut Table, below: &mut Below, number: u32)
+    requires { ListsChildren objects.old below.old }
+    ensures objects { objects.new ≡ without_numbered objects.old number }
+    ensures lists { ListsChildren objects.new below.new }
+{
+    match objects.take(number) {
+        Some(object) => below.unhang(object.parent, number),
+        None => {}
+    }
+}
+
+/// Takes these objects out, one after the other. Takes no memory.
+fn take_out_all(objects: &mut Table, below: &mut Below, gone: &[u32])
+    requires { ListsChildren objects.old below.old }
+    ensures objects { objects.new ≡ without_all objects.old gone.now }
+    ensures lists { ListsChildren objects.new below.new }
+{
+    for number in gone {
+        take_out(objects, below, *number);
+    }
 }
 
 impl Scene {
@@ -124,17 +148,16 @@ impl Scene {
         }
     }
 
-    /// Takes the object of a number out, if there is one; those below it stay. Takes no memory.
-    pub fn take(&mut self, number: u32)
-        ensures { self.new ≡ without_numbered self.old number }
+    /// Takes these objects out, those that are there. Takes no memory. Of a list of children the last one goes first
+    /// where they ascend in `gone`, so that none of them is moved.
+    pub fn take_all(&mut self, gone: Vec<u32>)
+        ensures { self.new ≡ without_all self.old gone.items }
     {
-        match self.objects.take(number) {
-            Some(object) => {
-                self.numbers.remove(number);
-                self.below.unhang(object.parent, number);
-            }
-            None => {}
-        }
+        let mut gone = gone;
+        gone.reverse();
+        take_out_all(&mut self.objects, &mut self.below, &gone);
+        gone.sort_unstable();
+        self.numbers.remove_all(&gone);
     }
 
     /// Puts an object below another one, or below none. Where there is no memory, nothing changes.

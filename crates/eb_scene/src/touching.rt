@@ -1,8 +1,7 @@
 // The keys that edits touch.
 ghost use Rattle.std.specs.Prelude.{◌≡◌, [], ◌∷◌, ◌++◌, IfOk, OnOk, map, flat_map};
 ghost use Rattle.eb_scene.specs.declared.keys.Key.TheVariants as key;
-ghost use Rattle.eb_scene.specs.Projects.{numbered, parent_at, most_depth};
-ghost use Rattle.eb_scene.specs.Trees.{subtree};
+ghost use Rattle.eb_scene.specs.Projects.{numbered, parent_at};
 ghost use Rattle.eb_scene.specs.Edits.{type_named};
 ghost use Rattle.eb_scene.specs.Touched.{children_key, part_key, part_keys, object_keys};
 
@@ -10,7 +9,6 @@ use crate::component_edits::type_named;
 use crate::keys::Key;
 use crate::objects::Part;
 use crate::scenes::Scene;
-use crate::tree::{MOST_DEPTH, subtree};
 use eb_base::Memory;
 use eb_schema::Schema;
 use std::alloc::Global;
@@ -112,18 +110,18 @@ pub fn added_keys(
     Ok(keys)
 }
 
-/// An object that goes, and all below it.
+/// An object that goes, and all below it, which are in `gone`.
 pub fn removed_keys(
     alloc: Global,
     found: &Scene,
     scene: u8,
     object: u32,
+    gone: &[u32],
 ) -> Result<Vec<Key>, Memory>
-    ensures { IfOk result (λ keys. keys.items ≡ flat_map (object_keys scene found.now) (subtree most_depth found.now (object ∷ [])) ++ children_key scene (parent_at found.now object)) }
+    ensures { IfOk result (λ keys. keys.items ≡ flat_map (object_keys scene found.now) gone.now ++ children_key scene (parent_at found.now object)) }
 {
-    let all = subtree(found, alloc, MOST_DEPTH, object)?;
     let mut keys = Vec::new(alloc);
-    push_objects(&mut keys, found, scene, &all)?;
+    push_objects(&mut keys, found, scene, gone)?;
     push_children(&mut keys, scene, found.parent(object))?;
     Ok(keys)
 }

@@ -1,7 +1,7 @@
 // Walks through the objects of a scene, up from one and down.
 ghost use Rattle.std.specs.Prelude.{◌≡◌, ◌≤◌, Some, [], ◌∷◌, length, IfOk};
 ghost use Rattle.eb_scene.specs.Numbers.{has_number};
-ghost use Rattle.eb_scene.specs.Trees.{next_level, height, subtree, without_all};
+ghost use Rattle.eb_scene.specs.Trees.{next_level, height, subtree};
 ghost use Rattle.eb_scene.specs.Projects.{above, first_mark, section};
 
 use crate::scenes::Scene;
@@ -111,13 +111,4 @@ pub fn subtree(scene: &Scene, alloc: Global, levels: u32, from: u32) -> Result<V
         level = next_level(scene, alloc, &level)?;
     }
     Ok(all)
-}
-
-/// Takes these objects out.
-pub fn take_all(scene: &mut Scene, numbers: &[u32])
-    ensures { scene.new ≡ without_all scene.old numbers.now }
-{
-    for number in numbers {
-        scene.take(*number);
-    }
 }

@@ -11,5 +11,5 @@ invariant_of-self-in-Ok c =
 -- no memory for the asset
 pub invariant_of-self-in-Err : goal.invariant_of-self-in-Err
 invariant_of-self-in-Err c =
-    rw (c.remove.ensures, c.in_ok-add.ensures.ok, c.in-Err.ensures.err)
+    rw (c.remove.ensures.removed, c.in_ok-add.ensures.ok, c.in-Err.ensures.err)
     (ap (λ ks. without_number (with_number ks c.args.number) c.args.number) c.self.invariant ∙ undone c.args.number _ (absent_keys c.args.number c.self.inside.values.entries c.in-Err.ensures.absent))

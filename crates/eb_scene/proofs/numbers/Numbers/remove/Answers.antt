@@ -8,10 +8,10 @@ invariant_of-self c =
     rw (c.remove.ensures.items ∙ take_found _ c.args.number _ c.self.invariant (rw c.as_slice.ensures.value at c.in-Ok.ensures.place))
     (sorted_without c.args.number _ c.self.invariant)
 
-pub returns-in-Ok : goal.returns-in-Ok
-returns-in-Ok c =
+pub returns-in-Ok-clause-removed : goal.returns-in-Ok-clause-removed
+returns-in-Ok-clause-removed c =
     c.remove.ensures.items ∙ take_found _ c.args.number _ c.self.invariant (rw c.as_slice.ensures.value at c.in-Ok.ensures.place) ∙ ap (λ ks. without_number ks c.args.number) c.self.view_is
 
-pub returns-in-Err : goal.returns-in-Err
-returns-in-Err c =
+pub returns-in-Err-clause-removed : goal.returns-in-Err-clause-removed
+returns-in-Err-clause-removed c =
     sym c.self.view_is ∙ take_gap _ c.args.number _ c.self.invariant (rw c.as_slice.ensures.value at c.in-Err.ensures.place) ∙ ap (λ ks. without_number ks c.args.number) c.self.view_is

@@ -2,6 +2,8 @@ use Rattle.std.proofs.Common.{rules, sym, ap, ◌∙◌}
 use Rattle.std.specs.Option.{option_copied_mut}
 use Rattle.eb_scene.specs.Edits.{component_removed}
 use Rattle.eb_scene.proofs.SceneFacts.{scene_told}
+use Rattle.eb_scene.proofs.ValidProjects.{scene_valid}
+use Rattle.eb_scene.proofs.ValidComponents.{taken}
 use Rattle.eb_scene.proofs.projects.Project.remove_component.Goals.{in-Some, in-None}
 use Rattle.eb_scene.proofs.projects.Project.remove_component.Goals as goal
 
@@ -12,4 +14,13 @@ returns c = elim c.match-get_mut.branch [
       let there = sym c.get_mut.ensures.value ∙ ap option_copied_mut w.in-Some.is in
       rw (w.result-is, w.self-inside-is, ← c.self.view_is) (scene_told _ c.args.scene (λ es. component_removed c.self.inside.schema es c.args.object c.args.kind.now) _ _ _ _ there set.0 w.remove_component.ensures)
   | in-None w ↦ search rules
+]
+
+pub invariant_of-self : goal.invariant_of-self
+invariant_of-self c = elim c.match-get_mut.branch [
+  | in-Some w ↦
+      let set = c.get_mut.follows.holds w.remove_component.new.scene in
+      let there = sym c.get_mut.ensures.value ∙ ap option_copied_mut w.in-Some.is in
+      rw w.self-inside-is (scene_valid _ c.self.invariant c.args.scene (λ es. component_removed c.self.inside.schema es c.args.object c.args.kind.now) (λ es fs scene is. taken c.self.inside.schema es c.args.object c.args.kind.now fs scene is) _ _ _ _ there set.0 w.remove_component.ensures)
+  | in-None w ↦ rw (w.self-inside-is, c.get_mut.follows.holds-at-none) c.self.invariant
 ]

@@ -2,6 +2,8 @@ use Rattle.std.proofs.Common.{rules, sym, ap, ◌∙◌}
 use Rattle.std.specs.Option.{option_copied_mut}
 use Rattle.eb_scene.specs.Edits.{parent_set}
 use Rattle.eb_scene.proofs.SceneFacts.{scene_told}
+use Rattle.eb_scene.proofs.ValidProjects.{scene_valid}
+use Rattle.eb_scene.proofs.ValidObjects.{moved}
 use Rattle.eb_scene.proofs.projects.Project.set_parent.Goals.{in-Some, in-None}
 use Rattle.eb_scene.proofs.projects.Project.set_parent.Goals as goal
 
@@ -12,4 +14,13 @@ returns c = elim c.match-get_mut.branch [
       let there = sym c.get_mut.ensures.value ∙ ap option_copied_mut w.in-Some.is in
       rw (w.result-is, w.self-inside-is, ← c.self.view_is) (scene_told _ c.args.scene (λ es. parent_set es c.args.object c.args.parent) _ _ _ _ there set.0 w.set_parent.ensures)
   | in-None w ↦ search rules
+]
+
+pub invariant_of-self : goal.invariant_of-self
+invariant_of-self c = elim c.match-get_mut.branch [
+  | in-Some w ↦
+      let set = c.get_mut.follows.holds w.set_parent.new.scene in
+      let there = sym c.get_mut.ensures.value ∙ ap option_copied_mut w.in-Some.is in
+      rw w.self-inside-is (scene_valid _ c.self.invariant c.args.scene (λ es. parent_set es c.args.object c.args.parent) (λ es fs scene is. moved c.self.inside.schema es c.args.object c.args.parent fs scene is) _ _ _ _ there set.0 w.set_parent.ensures)
+  | in-None w ↦ rw (w.self-inside-is, c.get_mut.follows.holds-at-none) c.self.invariant
 ]

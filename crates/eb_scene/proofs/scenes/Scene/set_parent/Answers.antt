@@ -1,6 +1,4 @@
-use Rattle.std.proofs.Common.{sym, ap, ◌∙◌}
-use Rattle.eb_scene.specs.Projects.{is_parent}
-use Rattle.eb_scene.specs.Tables.{list_at, changed_list}
+use Rattle.std.proofs.Common.{sym}
 use Rattle.eb_scene.proofs.IndexFacts.{index_moved}
 use Rattle.eb_scene.proofs.scenes.Scene.set_parent.Goals as goal
 
