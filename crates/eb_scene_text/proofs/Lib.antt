@@ -1,0 +1,10 @@
+pub mod MemberFacts
+pub mod ReadFacts
+pub mod EditFacts
+pub mod DraftFacts
+pub mod PlainFacts
+pub mod WrittenFacts
+pub mod DocumentForms
+pub mod LineFeeds
+pub mod DepthFacts
+pub mod ReadBack
