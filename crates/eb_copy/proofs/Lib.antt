@@ -1,0 +1,9 @@
+pub mod TotalFacts
+pub mod KeyFacts
+pub mod Lookups
+pub mod PartChanges
+pub mod Outcomes
+pub mod EditFacts
+pub mod RerunFacts
+pub mod ReachFacts
+pub mod ChangeFacts
