@@ -18,5 +18,5 @@ mod SpelledNumbers
 mod SpelledTokens
 mod Printed
 mod PrintedTexts
-mod ReadsBack
+pub mod ReadsBack
 mod Reserved

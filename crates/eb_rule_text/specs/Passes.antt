@@ -7,7 +7,7 @@ use Rattle.eb_rule_text.specs.declared.errors.TextError.TheVariants.{Memory, Tok
 use Rattle.eb_rule_text.specs.declared.errors.TokenError.{TokenError}
 use Rattle.eb_rule_text.specs.declared.errors.TokenError.TheVariants as token
 use Rattle.eb_rule_text.specs.declared.passes.Placed.{Placed}
-use Rattle.eb_rule_text.specs.Input.{Outcome, Parser}
+use Rattle.eb_rule_text.specs.Input.{Input, Outcome, Parser}
 use Rattle.eb_rule_text.specs.Tokens.{Text, Lexes, tokens}
 
 -- where the token begins that so many tokens are left from; with none left it is the end of the text
@@ -37,6 +37,12 @@ parsed reader (Err e) end = Err (token_refusal e)
 -- the tokens, and then the syntax
 abbrev pub read_text : {A : Type 0} → Parser A → Text → Result (Placed A) TextError
 read_text reader text = parsed reader (tokens text) (length text)
+
+-- The tokens of the text, which begin at these places, are in a grammar as this tree.
+pub record Spells {A : Type 0} (grammar : Input → A → Type 0) (text : Text) (tree : A) (places : List ℕ) : Type 0 where
+  pub lexemes : Input
+  pub cut : tokens text ≡ Ok (record { places = places; lexemes = lexemes })
+  pub is : grammar lexemes tree
 
 -- the answer of the definition, unless memory fails
 abbrev pub Gives : {A : Type 0} → Result A TextError → Result A TextError → Type 0

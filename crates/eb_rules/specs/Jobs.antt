@@ -25,7 +25,6 @@ use Rattle.eb_rules.specs.Statements.{entity_named, fitted, inits_from}
 use Rattle.eb_rules.specs.Queries.{query_typed, text_refusal, capped}
 use Rattle.eb_rules.specs.declared.faults.RuleFault.{RuleFault}
 use Rattle.eb_rules.specs.declared.faults.RuleFault.TheVariants.{Memory, At}
-use Rattle.eb_rules.specs.declared.jobs.Job.{Job}
 
 -- ---- targets
 
@@ -89,29 +88,34 @@ commands_typed types all (x ∷ xs) count known p =
 
 -- ---- a whole job
 
-abbrev pub job_made : JobTree → Query3 → Job
+-- the tree of a job, and the types of its query
+pub record MeantJob : Type 0 where
+  pub tree : JobTree
+  pub query : Query3
+
+abbrev pub job_made : JobTree → Query3 → MeantJob
 job_made tree query = record { tree = tree; query = query }
 
-abbrev pub with_query : JobTree → Query3 → Found Places → Found Job
+abbrev pub with_query : JobTree → Query3 → Found Places → Found MeantJob
 with_query tree q (Ok p) = Ok (job_made tree q)
 with_query tree q (Err x) = Err x
 
 -- the query, then the key, then the commands
-abbrev pub job_typed : Types → JobTree → Places → Found Job
+abbrev pub job_typed : Types → JobTree → Places → Found MeantJob
 job_typed types x p =
     and_found (query_typed types x.query (drop 1 p)) (λ q.
     and_found (fitted (Some shape.Int) (typed (job_scope types q.0.all []) x.key (drop 1 q.1)) (drop 1 q.1)) (λ n.
     with_query x q.0 (commands_typed types q.0.all x.commands 0 [] (drop 1 n))))
 
-abbrev pub meant_job : Types → Result (Placed JobTree) TextError → Found Job
+abbrev pub meant_job : Types → Result (Placed JobTree) TextError → Found MeantJob
 meant_job types (Ok placed) = job_typed types placed.tree placed.places
 meant_job types (Err e) = Err (text_refusal e)
 
 -- the job that a text says: tokens, then syntax, then meaning
-unfoldable pub job_of : Types → Text → Found Job
+unfoldable pub job_of : Types → Text → Found MeantJob
 job_of types text = meant_job types (read_text job text)
 
 -- a refusal as it is told, unless memory fails
-abbrev pub TellsJob : Found Job → RuleFault → Type 0
+abbrev pub TellsJob : Found MeantJob → RuleFault → Type 0
 TellsJob told Memory = Unit {0}
 TellsJob told (At at kind) = (n : ℕ) × ((told ≡ Err (record { kind = kind; at = n })) × (at ≡ capped n))

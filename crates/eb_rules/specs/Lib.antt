@@ -5,3 +5,6 @@ pub mod Typing
 pub mod Statements
 pub mod Queries
 pub mod Jobs
+pub mod WellTyped
+pub mod Kept
+pub mod Says

@@ -1,6 +1,8 @@
 // Jobs of a text.
-ghost use Rattle.std.specs.Prelude.{◌≡◌, MatchResult, Ok, Err, Some, [], drop};
+ghost use Rattle.std.specs.Prelude.{◌≡◌, MatchResult, Ok, Err, IfOk, Some, [], drop};
+ghost use Rattle.eb_rule_tree.specs.Plans.{job_plan};
 ghost use Rattle.eb_rules.specs.Jobs as spec;
+ghost use Rattle.eb_rules.specs.Says.{SaysJob, IsReadAs};
 ghost use Rattle.eb_rules.specs.Statements.{Stops, fitted};
 ghost use Rattle.eb_rules.specs.Typing as typing;
 
@@ -14,14 +16,16 @@ use crate::typing::typed;
 use crate::walking::WalkError;
 use eb_base::TypeNo;
 use eb_rule_text::{Expr, JobTree, read_job};
+use eb_rule_tree::{JobPlan, plan_job};
 use eb_schema::Schema;
 use std::alloc::Global;
 
-/// A job: a tree whose names are there and whose types fit, and the types of its query.
+/// A job: a tree whose names are there and whose types fit, the types of its query, and the tree that evaluation walks.
 #[derive(Drop)]
 pub struct Job {
     tree: JobTree,
     query: Query3,
+    plan: JobPlan,
 }
 
 // The key, which is a whole number.
@@ -62,22 +66,38 @@ fn job_typed(
     Ok(query)
 }
 
-impl Job {
-    /// The job of a text, or the first refusal of the first pass that has one. `docs/rules.md`, "Refusals".
-    #[tactic(auto, unfolding(crate::specs::Jobs::job_of))]
-    pub fn read(alloc: Global, text: &[u8], schema: &Schema) -> Result<Self, RuleFault>
-        ensures { MatchResult result (λ j. spec.job_of schema.now text.now ≡ Ok j) (λ e. spec.TellsJob (spec.job_of schema.now text.now) e) }
-    {
-        match read_job(alloc, text) {
-            Err(e) => Err(of_text(e)),
-            Ok(placed) => match job_typed(alloc, schema, &placed.tree, placed.places.items()) {
-                Err(e) => Err(of_walk(e)),
-                Ok(query) => Ok(Job {
+// The job of a text, by the three passes.
+#[tactic(auto, unfolding(crate::specs::Jobs::job_of))]
+fn job_in(alloc: Global, text: &[u8], schema: &Schema) -> Result<Job, RuleFault>
+    ensures told { MatchResult result (λ j. spec.job_of schema.now text.now ≡ Ok (spec.job_made j.tree j.query)) (λ e. spec.TellsJob (spec.job_of schema.now text.now) e) }
+    ensures plan { IfOk result (λ j. j.plan ≡ job_plan schema.now j.tree) }
+{
+    match read_job(alloc, text) {
+        Err(e) => Err(of_text(e)),
+        Ok(placed) => match job_typed(alloc, schema, &placed.tree, placed.places.items()) {
+            Err(e) => Err(of_walk(e)),
+            Ok(query) => match plan_job(alloc, schema, &placed.tree) {
+                Err(_) => Err(RuleFault::Memory),
+                Ok(plan) => Ok(Job {
                     tree: placed.tree,
                     query,
+                    plan,
                 }),
             },
-        }
+        },
+    }
+}
+
+impl Job {
+    /// The job of a text, or the first refusal of the first pass that has one. A text is accepted exactly where it is in the grammar
+    /// and its tree is well typed. `docs/rules.md`, "Refusals".
+    pub fn read(alloc: Global, text: &[u8], schema: &Schema) -> Result<Self, RuleFault>
+        ensures told { MatchResult result (λ j. spec.job_of schema.now text.now ≡ Ok (spec.job_made j.tree j.query)) (λ e. spec.TellsJob (spec.job_of schema.now text.now) e) }
+        ensures says { IfOk result (λ j. SaysJob schema.now text.now (spec.job_made j.tree j.query)) }
+        ensures accepts { (job : spec.MeantJob) → SaysJob schema.now text.now job → IsReadAs result job }
+        ensures plan { IfOk result (λ j. j.plan ≡ job_plan schema.now j.tree) }
+    {
+        job_in(alloc, text, schema)
     }
 
     /// The types of the job's query. Takes no memory.
@@ -85,6 +105,13 @@ impl Job {
         ensures { result.now ≡ self.now.query }
     {
         &self.query
+    }
+
+    /// The tree that evaluation walks, with numbers and places for names. `docs/rules.md`, "Resolved trees". Takes no memory.
+    pub fn resolved(&self) -> &JobPlan
+        ensures { result.now ≡ self.now.plan }
+    {
+        &self.plan
     }
 
     /// The tree of the job. Takes no memory.

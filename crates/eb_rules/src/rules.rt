@@ -1,9 +1,14 @@
 // Names and types of whole rules, and rules of a text.
 ghost use Rattle.std.specs.Prelude.{◌≡◌, ◌++◌, ◌∷◌, [], MatchResult, Ok, Err, IfOk};
 ghost use Rattle.eb_rule_text.specs.Printing as printing;
+ghost use Rattle.eb_rule_text.specs.declared.trees.RulesTree.{RulesTree};
+ghost use Rattle.eb_rule_tree.specs.Plans.{rules_plan};
 ghost use Rattle.eb_rules.specs.Queries as spec;
+ghost use Rattle.eb_rules.specs.Says.{SaysRules, AreReadAs};
 ghost use Rattle.eb_rules.specs.Scopes as scopes;
 ghost use Rattle.eb_rules.specs.Statements.{Stops};
+ghost use Rattle.eb_rules.specs.WellTyped.{AreWellTyped};
+ghost use Rattle.eb_schema.specs.Schemas.{Types};
 
 use crate::faults::{Refusal, RuleFault, RuleKind};
 use crate::fields::{authoring_fields, past, refused};
@@ -12,6 +17,7 @@ use crate::statements::inside;
 use crate::walking::{Ground, State, WalkError};
 use eb_base::{Items, Memory, Text};
 use eb_rule_text::{Baker, Rule, RulesTree, System, TextError, print_rules, read_rules};
+use eb_rule_tree::{RulesPlan, plan_rules};
 use eb_schema::Schema;
 use std::alloc::Global;
 use std::marker::Model;
@@ -173,22 +179,26 @@ fn rules_typed(
     Ok(())
 }
 
-/// The rules of a project: a tree whose names are there and whose types fit.
+/// The rules of a project: a tree whose names are there and whose types fit, and the tree that evaluation walks.
 #[derive(Drop)]
 pub struct Rules {
     tree: RulesTree,
+    plan: RulesPlan,
 }
 
 impl Model for Rules {
-    ghost use Rattle.eb_rule_text.specs.declared.trees.RulesTree.{RulesTree};
+    ghost use Rattle.std.specs.Prelude.{ℕ, List};
+    ghost use Rattle.eb_rule_text.specs.Grammar.{IsRules};
+    ghost use Rattle.eb_rule_text.specs.Passes.{Spells};
+    ghost use Rattle.eb_rules.specs.Kept.{Kept, coded_kept};
 
-    ghost Value = { RulesTree };
+    ghost Value = { Kept };
 
-    ghost use Rattle.eb_rule_text.specs.contracts.trees.RulesTree as whole;
+    ghost coded = { coded_kept };
 
-    ghost coded = { whole.the_row.coded };
+    ghost view = { λ r. record { tree = r.tree; plan = r.plan } };
 
-    ghost view = { λ r. r.tree };
+    ghost invariant = { λ r. (text : List ℕ) × ((places : List ℕ) × Spells IsRules text r.tree places) };
 }
 
 fn capped(at: usize) -> u32
@@ -239,41 +249,66 @@ pub fn of_walk(e: WalkError) -> RuleFault
     }
 }
 
-impl Rules {
-    /// The rules of a text, or the first refusal of the first pass that has one: tokens, then syntax, then names and types.
-    /// `docs/rules.md`, "Refusals".
-    #[tactic(auto, unfolding(crate::specs::Queries::rules_of))]
-    pub fn read(alloc: Global, text: &[u8], schema: &Schema) -> Result<Self, RuleFault>
-        ensures { MatchResult result (λ r. spec.rules_of schema.now text.now ≡ Ok r) (λ e. spec.Tells (spec.rules_of schema.now text.now) e) }
-    {
-        match read_rules(alloc, text) {
-            Err(e) => Err(of_text(e)),
-            Ok(placed) => {
-                match rules_typed(
-                    alloc,
-                    schema,
-                    placed.tree.rules.as_slice(),
-                    placed.places.items(),
-                ) {
-                    Err(e) => Err(of_walk(e)),
-                    Ok(()) => Ok(Rules { tree: placed.tree }),
-                }
+// The rules of a text, by the three passes.
+#[tactic(auto, unfolding(crate::specs::Queries::rules_of))]
+fn rules_in(alloc: Global, text: &[u8], schema: &Schema) -> Result<Rules, RuleFault>
+    ensures told { MatchResult result (λ r. spec.rules_of schema.now text.now ≡ Ok r.tree) (λ e. spec.Tells (spec.rules_of schema.now text.now) e) }
+    ensures plan { IfOk result (λ r. r.plan ≡ rules_plan schema.now r.tree) }
+{
+    match read_rules(alloc, text) {
+        Err(e) => Err(of_text(e)),
+        Ok(placed) => {
+            match rules_typed(
+                alloc,
+                schema,
+                placed.tree.rules.as_slice(),
+                placed.places.items(),
+            ) {
+                Err(e) => Err(of_walk(e)),
+                Ok(()) => match plan_rules(alloc, schema, &placed.tree) {
+                    Err(_) => Err(RuleFault::Memory),
+                    Ok(plan) => Ok(Rules {
+                        tree: placed.tree,
+                        plan,
+                    }),
+                },
             }
         }
+    }
+}
+
+impl Rules {
+    /// The rules of a text, or the first refusal of the first pass that has one: tokens, then syntax, then names and types. A text
+    /// is accepted exactly where it is in the grammar and its tree is well typed. `docs/rules.md`, "Refusals".
+    pub fn read(alloc: Global, text: &[u8], schema: &Schema) -> Result<Self, RuleFault>
+        ensures told { MatchResult result (λ r. spec.rules_of schema.now text.now ≡ Ok r.tree) (λ e. spec.Tells (spec.rules_of schema.now text.now) e) }
+        ensures says { IfOk result (λ r. SaysRules schema.now text.now r.tree) }
+        ensures accepts { (tree : RulesTree) → SaysRules schema.now text.now tree → AreReadAs result tree }
+        ensures plan { IfOk result (λ r. r.plan ≡ rules_plan schema.now r.tree) }
+    {
+        rules_in(alloc, text, schema)
     }
 
     /// The tree of the rules. Takes no memory.
     pub fn tree(&self) -> &RulesTree
-        ensures { result.now ≡ self.now }
+        ensures { result.now ≡ self.now.tree }
     {
         &self.tree
     }
+
+    /// The tree that evaluation walks, with numbers and places for names. `docs/rules.md`, "Resolved trees". Takes no memory.
+    pub fn resolved(&self) -> &RulesPlan
+        ensures { result.now ≡ self.now.plan }
+    {
+        &self.plan
+    }
 }
 
-/// The text of rules, which reads back as the same tree. `docs/rules.md`, "Printing".
+/// The text of rules. It says the same rules again over each schema in which they are well typed. `docs/rules.md`, "Printing".
 pub fn rules_text(alloc: Global, rules: &Rules) -> Result<Text, Memory>
-    ensures { IfOk result (λ text. text ≡ printing.rules_text rules.now) }
+    ensures text { IfOk result (λ text. text ≡ printing.rules_text rules.now.tree) }
+    ensures again { IfOk result (λ text. (types : Types) → AreWellTyped types rules.now.tree → SaysRules types text rules.now.tree) }
 {
-    let text = print_rules(alloc, rules.tree())?;
+    let text = print_rules(alloc, &rules.tree)?;
     Ok(text)
 }

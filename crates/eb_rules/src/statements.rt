@@ -31,11 +31,8 @@ fn let_walk<'p>(
     if find_bound(name.bytes(), state.known.items()).is_some() {
         return Err(WalkError::Refused(refused(RuleKind::NameTaken, past(places, 1))));
     }
-    let (shape, rest) = typed(
-        &scope_of(ground, state.known.items()),
-        value,
-        past(places, 3),
-    )?;
+    let scope = scope_of(ground, state.known.items());
+    let (shape, rest) = typed(&scope, value, past(places, 3))?;
     let name = name.copy(alloc)?;
     state.known.push(Visible {
         name,

@@ -5,15 +5,96 @@ use serde_json::Value;
 use std::alloc::{AllocError, Global};
 
 const SCHEMA: &str = "{\"assets\":[[\"power\",\"i32\"]],\"authoring\":[
+{\"copy\":\"Value\",\"fields\":[[\"v\",\"i64\"]],\"name\":\"Value\",\"number\":1},
+{\"copy\":\"Speed\",\"fields\":[[\"x\",\"fix\"]],\"name\":\"Speed\",\"number\":2},
 {\"copy\":null,\"fields\":[[\"a\",\"i64\"],[\"b\",\"i64\"]],\"name\":\"Div\",\"number\":3},
+{\"copy\":null,\"fields\":[[\"hp\",\"i64\"]],\"name\":\"Stats\",\"number\":4},
+{\"copy\":null,\"fields\":[],\"name\":\"Wants\",\"number\":5},
+{\"copy\":null,\"fields\":[[\"n\",\"i64\"]],\"name\":\"Plate\",\"number\":6},
+{\"copy\":null,\"fields\":[[\"n\",\"i64\"]],\"name\":\"Shield\",\"number\":7},
+{\"copy\":\"Link\",\"fields\":[[\"to\",\"ref\"]],\"name\":\"Link\",\"number\":8},
+{\"copy\":\"Wide1\",\"fields\":[[\"f0\",\"ref\"],[\"f1\",\"ref\"],[\"f2\",\"ref\"],[\"f3\",\"ref\"],[\"f4\",\"ref\"],[\"f5\",\"ref\"],[\"f6\",\"ref\"],[\"f7\",\"ref\"],[\"f8\",\"ref\"],[\"f9\",\"ref\"],[\"f10\",\"ref\"],[\"f11\",\"ref\"],[\"f12\",\"ref\"],[\"f13\",\"ref\"],[\"f14\",\"ref\"],[\"f15\",\"ref\"]],\"name\":\"Wide1\",\"number\":9},
+{\"copy\":\"Wide2\",\"fields\":[[\"f0\",\"ref\"],[\"f1\",\"ref\"],[\"f2\",\"ref\"],[\"f3\",\"ref\"],[\"f4\",\"ref\"],[\"f5\",\"ref\"],[\"f6\",\"ref\"],[\"f7\",\"ref\"],[\"f8\",\"ref\"],[\"f9\",\"ref\"],[\"f10\",\"ref\"],[\"f11\",\"ref\"],[\"f12\",\"ref\"],[\"f13\",\"ref\"],[\"f14\",\"ref\"],[\"f15\",\"ref\"]],\"name\":\"Wide2\",\"number\":10},
+{\"copy\":\"Wide3\",\"fields\":[[\"f0\",\"i64\"],[\"f1\",\"i64\"],[\"f2\",\"i64\"],[\"f3\",\"i64\"],[\"f4\",\"i64\"],[\"f5\",\"i64\"],[\"f6\",\"i64\"],[\"f7\",\"i64\"],[\"f8\",\"i64\"],[\"f9\",\"i64\"],[\"f10\",\"i64\"],[\"f11\",\"i64\"],[\"f12\",\"i32\"]],\"name\":\"Wide3\",\"number\":11},
 {\"copy\":null,\"fields\":[[\"model\",\"asset\"],[\"rank\",\"i32\"]],\"name\":\"Gun\",\"number\":12},
-{\"copy\":null,\"fields\":[[\"to\",\"ref\"]],\"name\":\"Link\",\"number\":8},
-{\"copy\":null,\"fields\":[],\"name\":\"Nest\",\"number\":13}],\"components\":[
+{\"copy\":null,\"fields\":[],\"name\":\"Nest\",\"number\":13},
+{\"copy\":\"Flag\",\"fields\":[],\"name\":\"Flag\",\"number\":14},
+{\"copy\":\"Scratch\",\"fields\":[[\"n\",\"i64\"]],\"name\":\"Scratch\",\"number\":15},
+{\"copy\":\"Hidden\",\"fields\":[],\"name\":\"Hidden\",\"number\":16}],\"components\":[
 {\"fields\":[[\"v\",\"i64\"]],\"mode\":\"stored\",\"name\":\"Value\",\"number\":1},
 {\"fields\":[[\"x\",\"fix\"]],\"mode\":\"stored\",\"name\":\"Speed\",\"number\":2},
 {\"fields\":[[\"q\",\"i64\"]],\"mode\":\"stored\",\"name\":\"Quot\",\"number\":3},
+{\"fields\":[[\"hp\",\"i64\"]],\"mode\":\"stored\",\"name\":\"Hp\",\"number\":4},
+{\"fields\":[[\"n\",\"i64\"]],\"mode\":\"stored\",\"name\":\"Armor\",\"number\":5},
 {\"fields\":[[\"to\",\"ref\"]],\"mode\":\"stored\",\"name\":\"Link\",\"number\":6},
-{\"fields\":[[\"power\",\"i32\"],[\"rank\",\"i32\"]],\"mode\":\"stored\",\"name\":\"Gun\",\"number\":10}]}";
+{\"fields\":[[\"f0\",\"ref\"],[\"f1\",\"ref\"],[\"f2\",\"ref\"],[\"f3\",\"ref\"],[\"f4\",\"ref\"],[\"f5\",\"ref\"],[\"f6\",\"ref\"],[\"f7\",\"ref\"],[\"f8\",\"ref\"],[\"f9\",\"ref\"],[\"f10\",\"ref\"],[\"f11\",\"ref\"],[\"f12\",\"ref\"],[\"f13\",\"ref\"],[\"f14\",\"ref\"],[\"f15\",\"ref\"]],\"mode\":\"stored\",\"name\":\"Wide1\",\"number\":7},
+{\"fields\":[[\"f0\",\"ref\"],[\"f1\",\"ref\"],[\"f2\",\"ref\"],[\"f3\",\"ref\"],[\"f4\",\"ref\"],[\"f5\",\"ref\"],[\"f6\",\"ref\"],[\"f7\",\"ref\"],[\"f8\",\"ref\"],[\"f9\",\"ref\"],[\"f10\",\"ref\"],[\"f11\",\"ref\"],[\"f12\",\"ref\"],[\"f13\",\"ref\"],[\"f14\",\"ref\"],[\"f15\",\"ref\"]],\"mode\":\"stored\",\"name\":\"Wide2\",\"number\":8},
+{\"fields\":[[\"f0\",\"i64\"],[\"f1\",\"i64\"],[\"f2\",\"i64\"],[\"f3\",\"i64\"],[\"f4\",\"i64\"],[\"f5\",\"i64\"],[\"f6\",\"i64\"],[\"f7\",\"i64\"],[\"f8\",\"i64\"],[\"f9\",\"i64\"],[\"f10\",\"i64\"],[\"f11\",\"i64\"],[\"f12\",\"i32\"]],\"mode\":\"stored\",\"name\":\"Wide3\",\"number\":9},
+{\"fields\":[[\"power\",\"i32\"],[\"rank\",\"i32\"]],\"mode\":\"stored\",\"name\":\"Gun\",\"number\":10},
+{\"fields\":[[\"rank\",\"i64\"]],\"mode\":\"stored\",\"name\":\"Total\",\"number\":11},
+{\"fields\":[[\"v\",\"i64\"]],\"mode\":\"stored\",\"name\":\"Near\",\"number\":12},
+{\"fields\":[],\"mode\":\"stored\",\"name\":\"Flag\",\"number\":13},
+{\"fields\":[[\"n\",\"i64\"]],\"mode\":\"baking\",\"name\":\"Scratch\",\"number\":14},
+{\"fields\":[],\"mode\":\"only\",\"name\":\"Hidden\",\"number\":15}]}";
+
+// A schema with more component types than an entity may have.
+const MANY_TYPES: &str =
+    "{\"assets\":[],\"authoring\":[{\"copy\":null,\"fields\":[],\"name\":\"Nest\",\"number\":1}],\"components\":[
+{\"fields\":[],\"mode\":\"stored\",\"name\":\"T1\",\"number\":1},
+{\"fields\":[],\"mode\":\"stored\",\"name\":\"T2\",\"number\":2},
+{\"fields\":[],\"mode\":\"stored\",\"name\":\"T3\",\"number\":3},
+{\"fields\":[],\"mode\":\"stored\",\"name\":\"T4\",\"number\":4},
+{\"fields\":[],\"mode\":\"stored\",\"name\":\"T5\",\"number\":5},
+{\"fields\":[],\"mode\":\"stored\",\"name\":\"T6\",\"number\":6},
+{\"fields\":[],\"mode\":\"stored\",\"name\":\"T7\",\"number\":7},
+{\"fields\":[],\"mode\":\"stored\",\"name\":\"T8\",\"number\":8},
+{\"fields\":[],\"mode\":\"stored\",\"name\":\"T9\",\"number\":9},
+{\"fields\":[],\"mode\":\"stored\",\"name\":\"T10\",\"number\":10},
+{\"fields\":[],\"mode\":\"stored\",\"name\":\"T11\",\"number\":11},
+{\"fields\":[],\"mode\":\"stored\",\"name\":\"T12\",\"number\":12},
+{\"fields\":[],\"mode\":\"stored\",\"name\":\"T13\",\"number\":13},
+{\"fields\":[],\"mode\":\"stored\",\"name\":\"T14\",\"number\":14},
+{\"fields\":[],\"mode\":\"stored\",\"name\":\"T15\",\"number\":15},
+{\"fields\":[],\"mode\":\"stored\",\"name\":\"T16\",\"number\":16},
+{\"fields\":[],\"mode\":\"stored\",\"name\":\"T17\",\"number\":17},
+{\"fields\":[],\"mode\":\"stored\",\"name\":\"T18\",\"number\":18},
+{\"fields\":[],\"mode\":\"stored\",\"name\":\"T19\",\"number\":19},
+{\"fields\":[],\"mode\":\"stored\",\"name\":\"T20\",\"number\":20},
+{\"fields\":[],\"mode\":\"stored\",\"name\":\"T21\",\"number\":21},
+{\"fields\":[],\"mode\":\"stored\",\"name\":\"T22\",\"number\":22},
+{\"fields\":[],\"mode\":\"stored\",\"name\":\"T23\",\"number\":23},
+{\"fields\":[],\"mode\":\"stored\",\"name\":\"T24\",\"number\":24},
+{\"fields\":[],\"mode\":\"stored\",\"name\":\"T25\",\"number\":25},
+{\"fields\":[],\"mode\":\"stored\",\"name\":\"T26\",\"number\":26},
+{\"fields\":[],\"mode\":\"stored\",\"name\":\"T27\",\"number\":27},
+{\"fields\":[],\"mode\":\"stored\",\"name\":\"T28\",\"number\":28},
+{\"fields\":[],\"mode\":\"stored\",\"name\":\"T29\",\"number\":29},
+{\"fields\":[],\"mode\":\"stored\",\"name\":\"T30\",\"number\":30},
+{\"fields\":[],\"mode\":\"stored\",\"name\":\"T31\",\"number\":31},
+{\"fields\":[],\"mode\":\"stored\",\"name\":\"T32\",\"number\":32},
+{\"fields\":[],\"mode\":\"stored\",\"name\":\"T33\",\"number\":33}]}";
+
+// The 32 types that an entity may have, one of them twice, and the same types again in an extra.
+const AS_MANY: &str =
+    "baker 1 on Nest { add T1 {} add T2 {} add T3 {} add T4 {} add T5 {} add T6 {} add T7 {} add T8 {} add T9 {} add T10 {} add T11 {} add T12 {} add T13 {} add T14 {} add T15 {} add T16 {} add T17 {} add T18 {} add T19 {} add T20 {} add T21 {} add T22 {} add T23 {} add T24 {} add T25 {} add T26 {} add T27 {} add T28 {} add T29 {} add T30 {} add T31 {} add T32 {} add T1 {} extra x { add T1 {} add T2 {} add T3 {} add T4 {} add T5 {} add T6 {} add T7 {} add T8 {} add T9 {} add T10 {} add T11 {} add T12 {} add T13 {} add T14 {} add T15 {} add T16 {} add T17 {} add T18 {} add T19 {} add T20 {} add T21 {} add T22 {} add T23 {} add T24 {} add T25 {} add T26 {} add T27 {} add T28 {} add T29 {} add T30 {} add T31 {} add T32 {} } }";
+
+// A 33rd type, in the object's own entity and in an extra.
+const TOO_MANY: &str =
+    "M baker 1 on Nest { add T1 {} add T2 {} add T3 {} add T4 {} add T5 {} add T6 {} add T7 {} add T8 {} add T9 {} add T10 {} add T11 {} add T12 {} add T13 {} add T14 {} add T15 {} add T16 {} add T17 {} add T18 {} add T19 {} add T20 {} add T21 {} add T22 {} add T23 {} add T24 {} add T25 {} add T26 {} add T27 {} add T28 {} add T29 {} add T30 {} add T31 {} add T32 {} add ^T33 {} }
+M baker 1 on Nest { add T33 {} extra x { add T1 {} add T2 {} add T3 {} add T4 {} add T5 {} add T6 {} add T7 {} add T8 {} add T9 {} add T10 {} add T11 {} add T12 {} add T13 {} add T14 {} add T15 {} add T16 {} add T17 {} add T18 {} add T19 {} add T20 {} add T21 {} add T22 {} add T23 {} add T24 {} add T25 {} add T26 {} add T27 {} add T28 {} add T29 {} add T30 {} add T31 {} add T32 {} add ^T33 {} } }";
+
+// The rules of a whole project.
+const PROJECT: &str = "baker 1 on Div { add Quot { q: this.a / this.b } }
+baker 2 on Plate { add Armor { n: this.n } }
+baker 3 on Shield { add Armor { n: this.n } }
+baker 4 on Wants { add Hp { hp: parent(Stats).hp or 0 } }
+baker 5 on Gun { add Gun { power: asset(this.model).power or 0, rank: this.rank } }
+baker 6 on Nest {
+  extra egg { add Value { v: count children(Nest) } add Link { to: entity(this) } }
+  add Link { to: entity(egg) }
+}
+system 1 all Gun { add Total { rank: sum all(Gun.rank) } }
+system 2 all Link Value { add Near { v: at(this.Link.to).Value.v or 0 } }";
 
 // One text on a line.
 const READ: &str = "baker 1 on Div { add Quot { q: this.a / this.b } } baker 64 on Nest { }
@@ -31,6 +112,7 @@ system 1 all Value any Gun none Link { let x = max all(Value.v) or count all(Gun
 // `D` Depth. It stands at `^`, which is no part of the text.
 const REFUSED: &str = "T ^$
 S baker 1^
+D baker 1 on Div { let x = (((((((((((((((((((((((((((((((^(
 U baker 1 on ^Nope { }
 F baker 1 on Div { add Quot { q: ^1 + 1.5 } }
 N baker 1 on Div { } baker ^1 on Div { }
@@ -102,9 +184,13 @@ F job all Gun key 0 { destroy ^at(this.Gun.rank) }
 F job key 0 { destroy at(this.^Gun.rank) }
 M job key 0 { create a create b create c create d create e create f create g create h ^create i }";
 
-fn schema(alloc: Global) -> Option<Schema> {
-    let document = Value::from_str(alloc, SCHEMA).ok()?;
+fn schema_in(alloc: Global, text: &str) -> Option<Schema> {
+    let document = Value::from_str(alloc, text).ok()?;
     Schema::read(alloc, &document).ok()
+}
+
+fn schema(alloc: Global) -> Option<Schema> {
+    schema_in(alloc, SCHEMA)
 }
 
 /// The refusal of a text, or none.
@@ -184,13 +270,18 @@ fn first_not_read(alloc: Global) -> Option<&'static str> {
     None
 }
 
-/// The first line of `REFUSED` that isn't refused as it says.
-fn first_not_refused(alloc: Global) -> Option<&'static str> {
-    let Some(schema) = schema(alloc) else {
+/// The first of these lines that isn't refused as it says.
+fn first_not_refused(
+    alloc: Global,
+    schema: Option<Schema>,
+    lines: &'static str,
+    are_jobs: bool,
+) -> Option<&'static str> {
+    let Some(schema) = schema else {
         return Some("no schema");
     };
-    for line in REFUSED.lines() {
-        if !is_refused(alloc, &schema, line.as_bytes(), false) {
+    for line in lines.lines() {
+        if !is_refused(alloc, &schema, line.as_bytes(), are_jobs) {
             return Some(line);
         }
     }
@@ -204,19 +295,6 @@ fn first_job_not_read(alloc: Global) -> Option<&'static str> {
     };
     for line in JOBS.lines() {
         if job_refusal(alloc, &schema, line.as_bytes()).is_some() {
-            return Some(line);
-        }
-    }
-    None
-}
-
-/// The first line of `REFUSED_JOBS` that isn't refused as it says.
-fn first_job_not_refused(alloc: Global) -> Option<&'static str> {
-    let Some(schema) = schema(alloc) else {
-        return Some("no schema");
-    };
-    for line in REFUSED_JOBS.lines() {
-        if !is_refused(alloc, &schema, line.as_bytes(), true) {
             return Some(line);
         }
     }
@@ -246,11 +324,41 @@ fn is_read_again(alloc: Global, schema: &Schema, text: &[u8]) -> bool {
     }
 }
 
+fn is_project_read_again(alloc: Global) -> bool {
+    match schema(alloc) {
+        Some(schema) => is_read_again(alloc, &schema, PROJECT.as_bytes()),
+        None => false,
+    }
+}
+
+fn are_many_read(alloc: Global) -> bool {
+    match schema_in(alloc, MANY_TYPES) {
+        Some(schema) => refusal(alloc, &schema, AS_MANY.as_bytes()).is_none(),
+        None => false,
+    }
+}
+
+#[test]
+fn a_project_is_printed_and_read_again(rt: HostRuntime) {
+    assert!(rt; is_project_read_again(rt.alloc()));
+}
+
+#[test]
+fn an_entity_has_at_most_32_types(rt: HostRuntime) {
+    let alloc = rt.alloc();
+    assert!(rt; are_many_read(alloc));
+    let many = schema_in(alloc, MANY_TYPES);
+    assert_eq!(rt; first_not_refused(alloc, many, TOO_MANY, false), None);
+}
+
 #[test]
 fn jobs_are_read_or_refused(rt: HostRuntime) {
     let alloc = rt.alloc();
     assert_eq!(rt; first_job_not_read(alloc), None);
-    assert_eq!(rt; first_job_not_refused(alloc), None);
+    assert_eq!(rt;
+        first_not_refused(alloc, schema(alloc), REFUSED_JOBS, true),
+        None
+    );
 }
 
 #[test]
@@ -263,5 +371,8 @@ fn rules_are_printed_and_read_again(rt: HostRuntime) {
 fn rules_are_read_or_refused(rt: HostRuntime) {
     let alloc = rt.alloc();
     assert_eq!(rt; first_not_read(alloc), None);
-    assert_eq!(rt; first_not_refused(alloc), None);
+    assert_eq!(rt;
+        first_not_refused(alloc, schema(alloc), REFUSED, false),
+        None
+    );
 }

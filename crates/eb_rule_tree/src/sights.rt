@@ -1,0 +1,31 @@
+// What can be seen where an expression stands.
+use eb_base::{Items, Text};
+use eb_schema::{Field, Schema};
+use std::marker::Model;
+
+/// Where an expression stands.
+#[derive(Drop)]
+pub struct Sight<'g, 'k> {
+    pub schema: &'g Schema,
+    /// The fields of the baker's own authoring type; none in systems and jobs.
+    pub own: &'g [Field],
+    /// The visible names, each different.
+    pub known: &'k [Text],
+}
+
+impl<'g, 'k> Model for Sight<'g, 'k> {
+    ghost use Rattle.eb_rule_tree.specs.Lookups.{Seen};
+
+    ghost Value = { Seen };
+
+    ghost view = { λ s. record { types = s.schema.now; own = s.own.now; known = s.known.now } };
+}
+
+/// What a walk over statements has come to.
+#[derive(Debug, Drop)]
+pub struct Have {
+    /// The visible names.
+    pub known: Items<Text>,
+    /// How many extras there were.
+    pub extras: usize,
+}

@@ -1,0 +1,7 @@
+mod TypedReads
+mod TypedExprs
+mod TypedInits
+mod TypedStmts
+mod TypedTexts
+mod TypedJobs
+mod Accepted
