@@ -1,28 +1,26 @@
 -- What every step keeps: each entity of the world is a row of the published image, and the section is loaded.
-use Rattle.std.proofs.Common.{◌≡◌, ℕ, zero, suc, Bool, true, false, [], ◌∷◌, refl, sym, ap, ◌∙◌, arith}
-use Rattle.std.specs.Prelude.{Option, None, Some, IfSome, All, ℤ, option_map, slice_index_or}
+use Rattle.std.proofs.Common.{◌≡◌, Bool, true, false, refl, sym, ap, ◌∙◌}
+use Rattle.std.specs.Prelude.{Option, None, Some, IfSome, option_map}
 use Rattle.std.specs.FinMap.{empty, get, get-empty, same_map}
-use Rattle.std.proofs.lemmas.List.Elements.{All-map}
+use Rattle.eb_schema.specs.Schemas.{Types}
 use Rattle.eb_base.specs.declared.names.Name.{Name}
 use Rattle.eb_base.specs.Names.{name_cmp}
 use Rattle.eb_base.proofs.NameOrder.{names_total, exact_names}
 use Rattle.eb_file.specs.declared.images.Image.{Image}
-use Rattle.eb_file.specs.declared.images.StoredCell.{StoredCell}
-use Rattle.eb_file.specs.declared.images.ImageRow.{ImageRow}
-use Rattle.eb_file.specs.declared.images.Stored.TheVariants as stored
 use Rattle.eb_world.specs.Worlds.{Live, Living}
-use Rattle.eb_stream.specs.Loading.{AllOf, IsNumber, HasNumbersAlone, loaded, unloaded}
+use Rattle.eb_stream.specs.Loading.{AllOf, loaded, unloaded}
 use Rattle.eb_stream.proofs.SectionFacts.{found_first, unloaded_all}
 use Rattle.eb_outside.specs.Shelves.{Files}
 use Rattle.eb_session.specs.declared.sections.Published.{Published}
-use Rattle.eb_session.specs.Objects.{Objects, row_of, image_of, the_place}
-use Rattle.eb_session.specs.Machine.{State, Step, IsSection, IsKept, refreshed_live}
+use Rattle.eb_session.specs.Images.{the_place}
+use Rattle.eb_scene.specs.Projects.{Content}
+use Rattle.eb_session.specs.Machine.{State, Step, IsSection, IsKept, refreshed_live, with_project}
 
 nothing_found : (live : Live) (name : Name) (l : Living) → live ≡ empty → get live name ≡ Some l → ⊥
 nothing_found live name l none has = cc (has, ap (λ m. get m name) none, get-empty {X = Living} name_cmp name)
 
 -- where nothing lives there is nothing to keep
-pub IsKept-empty : (state : State) → IfSome state.published IsSection → state.live ≡ empty → IsKept state
+pub IsKept-empty : (state : State) → IfSome state.published (IsSection state.project.schema) → state.live ≡ empty → IsKept state
 IsKept-empty state published none = record {
   published = published;
   rows = λ name l has. absurd (nothing_found state.live name l none has);
@@ -31,7 +29,7 @@ IsKept-empty state published none = record {
 }
 
 -- where the section was loaded into an empty world, its rows live and nothing else
-pub IsKept-loaded : (state : State) (before : Live) (image : Image) → state.published ≡ Some image → IsSection image → state.is_loaded ≡ true → before ≡ empty → state.live ≡ loaded before image → IsKept state
+pub IsKept-loaded : (state : State) (before : Live) (image : Image) → state.published ≡ Some image → IsSection state.project.schema image → state.is_loaded ≡ true → before ≡ empty → state.live ≡ loaded before image → IsKept state
 IsKept-loaded state before image published section is_loaded none live =
     let from_empty : state.live ≡ loaded empty image = live ∙ ap (λ l. loaded l image) none in
     let found : (name : Name) (l : Living) → get state.live name ≡ Some l → get (loaded empty image) name ≡ Some l = λ name l has. ap (λ m. get m name) (sym from_empty) ∙ has in
@@ -51,23 +49,12 @@ pub nothing_lives : (state : State) → IsKept state → state.is_loaded ≡ fal
 nothing_lives state kept unloaded =
     same_map names_total exact_names state.live empty (λ name. none_or (get state.live name) (λ l has. cc (kept.loaded name l has, unloaded)) ∙ sym (get-empty {X = Living} name_cmp name))
 
-all_one : {X : Type 0} (P : X → Type 0) (x : X) → P x → All P (x ∷ [])
-all_one P x h zero d within = h
-all_one P x h (suc k) d within = absurd (omega arith)
-
-number_row_alone : (object : ℕ × ℤ) → All (λ (c : StoredCell). All IsNumber c.values) (row_of object).cells
-number_row_alone object = all_one (λ (c : StoredCell). All IsNumber c.values) (record { kind = 1; values = stored.Num object.1 ∷ [] }) (all_one IsNumber (stored.Num object.1) tt)
-
--- the image of a scene has numbers alone
-pub HasNumbersAlone-image_of : (objects : Objects) → HasNumbersAlone (image_of objects)
-HasNumbersAlone-image_of objects = All-map (λ (row : ImageRow). All (λ (c : StoredCell). All IsNumber c.values) row.cells) row_of objects (λ k d within. number_row_alone (slice_index_or objects k d))
-
 -- what the published section is, seen through the image that is kept beside its bytes
-pub published_section : (published : Option Published) (p : Published) → published ≡ Some p → IfSome (option_map (λ (p : Published). p.image) published) IsSection → IsSection p.image
-published_section published p is section = rw is at section
+pub published_section : (types : Types) (published : Option Published) (p : Published) → published ≡ Some p → IfSome (option_map (λ (p : Published). p.image) published) (IsSection types) → IsSection types p.image
+published_section types published p is section = rw is at section
 
 -- a publication puts its image in place, and the section is loaded from it where it is loaded
-pub IsKept-refreshed : (state : State) (is_loaded : Bool) (before : Live) (image : Image) → state.published ≡ Some image → IsSection image → state.is_loaded ≡ is_loaded → AllOf (Some the_place) before → (is_loaded ≡ false → before ≡ empty)
+pub IsKept-refreshed : (state : State) (is_loaded : Bool) (before : Live) (image : Image) → state.published ≡ Some image → IsSection state.project.schema image → state.is_loaded ≡ is_loaded → AllOf (Some the_place) before → (is_loaded ≡ false → before ≡ empty)
     → state.live ≡ refreshed_live is_loaded before image → IsKept state
 IsKept-refreshed state false before image published section same tags none live = IsKept-empty state (rw published section) (live ∙ none refl)
 IsKept-refreshed state true before image published section same tags none live =
@@ -76,3 +63,7 @@ IsKept-refreshed state true before image published section same tags none live =
 pub same_for_all : (f g : Files → Step) (files : Option Files) → ((x : Files) → f x ≡ g x) → option_map f files ≡ option_map g files
 same_for_all f g None same = refl
 same_for_all f g (Some files) same = ap Some (same files)
+
+-- an edit changes the project, and neither its schema nor the world
+pub IsKept-edited : (state : State) (project : Content) → project.schema ≡ state.project.schema → IsKept state → IsKept (with_project state project)
+IsKept-edited state project same kept = record { published = rw same kept.published; rows = kept.rows; tags = kept.tags; loaded = kept.loaded }

@@ -1,6 +1,7 @@
-pub mod ItemLists
-pub mod SceneFacts
 pub mod RequestFacts
 pub mod DumpFacts
 pub mod KeptFacts
 pub mod OpeningFacts
+pub mod SectionFacts
+pub mod RowFacts
+pub mod EditFacts

@@ -1,7 +1,7 @@
 pub mod Ends
-pub mod Objects
-pub mod PlainProject
 pub mod Requests
 pub mod Replies
+pub mod Refusals
+pub mod Images
 pub mod Machine
 pub mod Opening

@@ -1,57 +1,93 @@
--- Which request a line is.
-use Rattle.std.specs.Prelude.{ℕ, ◌&&◌, ℤ, Bool, true, false, nat_le, Option, None, Some, option_and_then, List, [], ◌∷◌, length, codes}
+-- Which request a line is, or why it is none.
+use Rattle.std.specs.Prelude.{◌≡◌, ⊤, ℕ, Bool, ◌||◌, nat_le, if◌then◌else◌, Option, None, Some, option_and_then, Result, Ok, Err, List, [], ◌∷◌, length, codes}
+use Rattle.std.specs.Str.{bytes_eq}
 use Rattle.serde_json.specs.Data.{Data}
-use Rattle.serde_json.specs.Find.{get}
-use Rattle.eb_json.specs.Documents.{document_of, whole_number_of, has_keys, is_text}
-use Rattle.eb_session.specs.PlainProject.{if_true, natural_of, is_natural, object_number_of}
+use Rattle.serde_json.specs.Find.{get, as_str}
+use Rattle.eb_json.specs.Documents.{document_of, has_keys}
+use Rattle.eb_json.specs.Forms.{◌>>=◌, object_at, member_at, natural_at}
+use Rattle.eb_json.specs.declared.faults.FormFault.{FormFault}
+use Rattle.eb_json.specs.declared.faults.FormFault.TheVariants as form
+use Rattle.eb_scene.specs.Validity.{IsEdit}
+use Rattle.eb_scene_text.specs.EditForm.{edit_of}
 use Rattle.eb_session.specs.declared.requests.Request.{Request}
-use Rattle.eb_session.specs.declared.requests.Request.TheVariants.{Publish, SetField, Load, Unload, Dump}
+use Rattle.eb_session.specs.declared.requests.Request.TheVariants as request
+use Rattle.eb_session.specs.declared.requests.RequestFault.{RequestFault}
+use Rattle.eb_session.specs.declared.requests.RequestFault.TheVariants.{Memory, LineTooLong, BadJson, NotYet, BadRequest}
 
-abbrev pub is_text_member : List ℕ → Option Data → Bool
-is_text_member text None = false
-is_text_member text (Some d) = is_text text d
+-- what reading a form says of a request: it is one, or a node is wrong
+abbrev pub fault_of : FormFault → RequestFault
+fault_of form.Memory = Memory
+fault_of (form.Wrong place) = BadRequest place
+
+abbrev pub asked : {X : Type 0} → (X → Request) → Result X FormFault → Result Request RequestFault
+asked make (Ok x) = Ok (make x)
+asked make (Err fault) = Err (fault_of fault)
+
+-- the words of requests that aren't answered yet
+unfoldable pub is_later : List ℕ → Bool
+is_later word =
+    bytes_eq word (codes "issues") || bytes_eq word (codes "rows") || bytes_eq word (codes "count") || bytes_eq word (codes "sum")
+    || bytes_eq word (codes "max") || bytes_eq word (codes "job") || bytes_eq word (codes "buffer")
 
 -- {"do":WORD}
-unfoldable pub is_word : List ℕ → Data → Bool
-is_word word d = has_keys (codes "do" ∷ []) d && is_text_member word (get (codes "do") d)
+unfoldable pub alone : Request → Data → Result Request RequestFault
+alone made d = if has_keys (codes "do" ∷ []) d then Ok made else Err (BadRequest 0)
 
--- {"do":WORD,"scene":1,"section":0}
-unfoldable pub is_of_section : List ℕ → Data → Bool
-is_of_section word d =
-    has_keys (codes "do" ∷ codes "scene" ∷ codes "section" ∷ []) d
-    && is_text_member word (get (codes "do") d)
-    && is_natural 1 (option_and_then natural_of (get (codes "scene") d))
-    && is_natural 0 (option_and_then natural_of (get (codes "section") d))
+-- {"do":WORD,"scene":1 to 16,"section":0 to 63}, whose nodes are the root, the word, the scene and the section
+unfoldable pub place_form : Data → Result (ℕ × ℕ) FormFault
+place_form d = do
+  o ← object_at (codes "do" ∷ codes "scene" ∷ codes "section" ∷ []) 0 d
+  s ← member_at (codes "scene") 2 o
+  scene ← natural_at 1 16 2 s
+  k ← member_at (codes "section") 3 o
+  section ← natural_at 0 63 3 k
+  Ok (scene, section)
 
--- {"do":"set_field","field":"v","kind":"Value","object":..,"scene":1,"value":..}
-unfoldable pub is_set_field : Data → Bool
-is_set_field d =
-    has_keys (codes "do" ∷ codes "field" ∷ codes "kind" ∷ codes "object" ∷ codes "scene" ∷ codes "value" ∷ []) d
-    && is_text_member (codes "set_field") (get (codes "do") d)
-    && is_text_member (codes "v") (get (codes "field") d)
-    && is_text_member (codes "Value") (get (codes "kind") d)
-    && is_natural 1 (option_and_then natural_of (get (codes "scene") d))
+abbrev pub edit_request : Data → Result Request RequestFault
+edit_request d = asked request.Edit (edit_of d)
 
-abbrev pub set_field : Option ℕ → Option ℤ → Option Request
-set_field None value = None
-set_field (Some object) None = None
-set_field (Some object) (Some value) = Some (SetField object value)
+-- the request of a word; with any other word the document is read as an edit
+unfoldable pub by_word : List ℕ → Data → Result Request RequestFault
+by_word word d =
+    if is_later word then Err NotYet
+    else if bytes_eq word (codes "publish") then alone request.Publish d
+    else if bytes_eq word (codes "dump") then alone request.Dump d
+    else if bytes_eq word (codes "project") then alone request.Project d
+    else if bytes_eq word (codes "load") then asked (λ p. request.Load p.0 p.1) (place_form d)
+    else if bytes_eq word (codes "unload") then asked (λ p. request.Unload p.0 p.1) (place_form d)
+    else edit_request d
 
-unfoldable pub set_field_of : Data → Option Request
-set_field_of d = if_true (is_set_field d)
-    (set_field (option_and_then object_number_of (get (codes "object") d)) (option_and_then whole_number_of (get (codes "value") d)))
+abbrev pub where_word : Option (List ℕ) → Data → Result Request RequestFault
+where_word None d = edit_request d
+where_word (Some word) d = by_word word d
 
-abbrev pub where_true : Bool → Request → Option Request → Option Request
-where_true true request other = Some request
-where_true false request other = other
+unfoldable pub request_in : Data → Result Request RequestFault
+request_in d = where_word (option_and_then as_str (get (codes "do") d)) d
 
-unfoldable pub request_in : Data → Option Request
-request_in d =
-    where_true (is_word (codes "publish") d) Publish
-    (where_true (is_word (codes "dump") d) Dump
-    (where_true (is_of_section (codes "load") d) Load
-    (where_true (is_of_section (codes "unload") d) Unload (set_field_of d))))
+abbrev pub in_document : Option Data → Result Request RequestFault
+in_document None = Err BadJson
+in_document (Some d) = request_in d
 
--- a line of at most 65,536 bytes that spells a request; None for every other line
-unfoldable pub request_of : List ℕ → Option Request
-request_of line = if_true (nat_le (length line) 65536) (option_and_then request_in (document_of line))
+-- a line of at most 65,536 bytes that spells a request, or the first rule that it breaks
+unfoldable pub request_of : List ℕ → Result Request RequestFault
+request_of line = if nat_le (length line) 65536 then in_document (document_of line) else Err LineTooLong
+
+-- ---- what a call tells
+
+abbrev pub Refuses : {X : Type 0} → RequestFault → Result X RequestFault → Type 0
+Refuses Memory want = ⊤
+Refuses fault want = want ≡ Err fault
+
+-- what a call answered is what is wanted, unless memory ran out
+abbrev pub Tells : {X : Type 0} → Result X RequestFault → Result X RequestFault → Type 0
+Tells (Ok x) want = want ≡ Ok x
+Tells (Err fault) want = Refuses fault want
+
+-- a request whose edit speaks of scenes, objects and assets that a project may have
+abbrev pub IsRequest : Request → Type 0
+IsRequest (request.Edit edit) = IsEdit edit
+IsRequest request.Publish = ⊤
+IsRequest request.Dump = ⊤
+IsRequest request.Project = ⊤
+IsRequest (request.Load scene section) = ⊤
+IsRequest (request.Unload scene section) = ⊤

@@ -29,6 +29,41 @@ pub enum OpenEnd {
     },
 }
 
+/// Why a file isn't read as what it is to hold.
+#[derive(Debug, Drop)]
+pub enum Refusal {
+    /// Want of memory.
+    Memory,
+    /// The file is refused.
+    Line {
+        /// The line that says which file is refused, and why, with its line feed.
+        line: Text,
+    },
+}
+
+impl From<Memory> for Refusal {
+    ghost use Rattle.eb_session.specs.declared.errors.Refusal.TheVariants.{Memory};
+
+    ghost from_gives = { λ _ e. e ≡ Memory };
+
+    fn from(_: Memory) -> Self {
+        Refusal::Memory
+    }
+}
+
+impl From<Refusal> for OpenEnd {
+    ghost use Rattle.eb_session.specs.Ends.{open_end_of_refusal};
+
+    ghost from_gives = { λ refusal end. end ≡ open_end_of_refusal refusal };
+
+    fn from(refusal: Refusal) -> Self {
+        match refusal {
+            Refusal::Memory => OpenEnd::Memory,
+            Refusal::Line { line } => OpenEnd::Refused { line },
+        }
+    }
+}
+
 impl From<Memory> for SessionEnd {
     ghost use Rattle.eb_session.specs.declared.errors.SessionEnd.TheVariants.{Memory};
 

@@ -3,8 +3,9 @@
 #![tactic(auto)]
 
 pub mod errors;
-pub mod object_table;
-pub mod plain_project;
+pub mod imaging;
+pub mod opening;
+pub mod refusals;
 pub mod replies;
 pub mod requests;
 pub mod sections;
@@ -12,5 +13,5 @@ pub mod sessions;
 
 pub use errors::{OpenEnd, SessionEnd};
 pub use replies::Reply;
-pub use requests::{LineMode, Request};
+pub use requests::{LineMode, Request, RequestFault};
 pub use sessions::Session;

@@ -1,9 +1,11 @@
 // The texts of replies.
 ghost use Rattle.std.specs.Prelude.{◌≡◌, IfOk, string_bytes};
-ghost use Rattle.eb_session.specs.Replies.{rebaked_text, published_text, loaded_text, unloaded_text, dumped_text, no_section_text, already_loaded_text, not_loaded_text, world_full_text, no_object_text, not_yet_text, refused_text};
+ghost use Rattle.eb_session.specs.Replies.{rebaked_text, published_text, loaded_text, unloaded_text, dumped_text, project_reply, edit_refusal, edit_refused_text, no_request_text, not_yet_text, no_section_text, already_loaded_text, not_loaded_text};
 
+use crate::requests::RequestFault;
 use eb_base::{Memory, Text};
-use std::alloc::Global;
+use eb_scene::EditFault;
+use std::alloc::{AllocError, Global};
 
 /// The answer to one line.
 #[derive(Debug, Drop)]
@@ -21,12 +23,12 @@ fn reply_of(text: String) -> Reply
     }
 }
 
-/// The reply to an accepted edit, in a project of so many objects.
+/// The reply to an accepted edit, which made so many runs anew, of so many that there are.
 #[tactic(auto, unfolding(crate::specs::Replies::rebaked_text))]
-pub fn rebaked(alloc: Global, objects: usize) -> Result<Reply, Memory>
-    ensures { IfOk result (λ reply. reply.text ≡ rebaked_text objects) }
+pub fn rebaked(alloc: Global, rerun: u32, runs: u32) -> Result<Reply, Memory>
+    ensures { IfOk result (λ reply. reply.text ≡ rebaked_text rerun runs) }
 {
-    Ok(reply_of(format!(in alloc; "ok rebaked 1 of {objects}\n")?))
+    Ok(reply_of(format!(in alloc; "ok rebaked {rerun} of {runs}\n")?))
 }
 
 /// The reply to a publication of this generation that wrote so many section files, and loaded so many sections again.
@@ -73,25 +75,70 @@ pub fn dumped(alloc: Global, entities: Text, count: u32) -> Result<Reply, Memory
     })
 }
 
-/// The reply to a section that can't be loaded, since the world would have so many entities.
-#[tactic(auto, unfolding(crate::specs::Replies::world_full_text))]
-pub fn world_full(alloc: Global, count: u32) -> Result<Reply, Memory>
-    ensures { IfOk result (λ reply. reply.text ≡ world_full_text count) }
+/// The reply that prints the project.
+#[tactic(auto, unfolding(crate::specs::Replies::project_reply))]
+pub fn project(printed: Text) -> Result<Reply, Memory>
+    ensures { IfOk result (λ reply. reply.text ≡ project_reply printed) }
 {
-    Ok(reply_of(format!(in alloc; "E25 WorldFull {count}\n")?))
-}
-
-/// The reply to an edit of an object that isn't there.
-#[tactic(auto, unfolding(crate::specs::Replies::no_object_text))]
-pub fn no_object(alloc: Global) -> Result<Reply, Memory>
-    ensures { IfOk result (λ reply. reply.text ≡ no_object_text) }
-{
+    let mut text = printed.into_vec();
+    text.extend_from_slice(b"ok project\n")?;
     Ok(Reply {
-        text: Text::of(alloc, b"E5 NoObject\n")?,
+        text: Text::from_vec(text),
     })
 }
 
+/// The rule that an edit breaks, by number and name.
+#[tactic(auto, unfolding(crate::specs::Replies::edit_refusal))]
+pub fn refusal(alloc: Global, fault: EditFault) -> Result<String, AllocError>
+    ensures { IfOk result (λ text. string_bytes text ≡ edit_refusal fault) }
+{
+    let words = match fault {
+        EditFault::Memory => "",
+        EditFault::NoScene => "E3 NoScene",
+        EditFault::SceneTaken => "E4 SceneTaken",
+        EditFault::NoObject => "E5 NoObject",
+        EditFault::ObjectTaken => "E6 ObjectTaken",
+        EditFault::NoParent => "E7 NoParent",
+        EditFault::Cycle => "E8 Cycle",
+        EditFault::NoType => "E9 NoType",
+        EditFault::NoComponent => "E10 NoComponent",
+        EditFault::NoField => "E11 NoField",
+        EditFault::BadValue { index } => return format!(in alloc; "E12 BadValue {index}"),
+        EditFault::NoAsset => "E13 NoAsset",
+        EditFault::AssetLimit => "E14 AssetLimit",
+        EditFault::ObjectLimit => "E15 ObjectLimit",
+        EditFault::DepthLimit => "E16 DepthLimit",
+        EditFault::SectionRange => "E17 SectionRange",
+    };
+    String::from_str(alloc, words)
+}
+
+/// The reply to an edit that is refused.
+#[tactic(auto, unfolding(crate::specs::Replies::edit_refused_text))]
+pub fn edit_refused(alloc: Global, fault: EditFault) -> Result<Reply, Memory>
+    ensures { IfOk result (λ reply. reply.text ≡ edit_refused_text fault) }
+{
+    let mut text = refusal(alloc, fault)?;
+    text.push_str("\n")?;
+    Ok(reply_of(text))
+}
+
 /// The reply to a line that is no request.
+#[tactic(auto, unfolding(crate::specs::Replies::no_request_text))]
+pub fn no_request(alloc: Global, fault: RequestFault) -> Result<Reply, Memory>
+    ensures { IfOk result (λ reply. reply.text ≡ no_request_text fault) }
+{
+    let text = match fault {
+        RequestFault::Memory => return Err(Memory),
+        RequestFault::LineTooLong => String::from_str(alloc, "E1 LineTooLong\n")?,
+        RequestFault::BadJson => String::from_str(alloc, "E2 BadJson\n")?,
+        RequestFault::NotYet => String::from_str(alloc, "E2 NotYet\n")?,
+        RequestFault::BadRequest { place } => format!(in alloc; "E2 BadRequest {place}\n")?,
+    };
+    Ok(reply_of(text))
+}
+
+/// The reply to the publication of a project that isn't published yet.
 #[tactic(auto, unfolding(crate::specs::Replies::not_yet_text))]
 pub fn not_yet(alloc: Global) -> Result<Reply, Memory>
     ensures { IfOk result (λ reply. reply.text ≡ not_yet_text) }
@@ -129,12 +176,4 @@ pub fn not_loaded(alloc: Global) -> Result<Reply, Memory>
     Ok(Reply {
         text: Text::of(alloc, b"E20 NotLoaded\n")?,
     })
-}
-
-/// The line that refuses a folder whose project can't be opened.
-#[tactic(auto, unfolding(crate::specs::Replies::refused_text))]
-pub fn refused_line(alloc: Global) -> Result<Text, Memory>
-    ensures { IfOk result (λ line. line ≡ refused_text) }
-{
-    Text::of(alloc, b"refused project.json NotYet\n")
 }

@@ -1,26 +1,20 @@
 // The section as it was last published, and the world that it is loaded into.
 ghost use Rattle.std.specs.Prelude.{◌≡◌, ◌<◌, ◌+◌, ◌^◌, Some, None, true, false, option_map, length, IfOk, IfSome, OnOk, OnErr};
 ghost use Rattle.std.specs.FinMap.{empty};
-ghost use Rattle.eb_schema.specs.Schemas.{plain_types};
 ghost use Rattle.eb_query.specs.EntityText.{entity_lines};
 ghost use Rattle.eb_stream.specs.Loading.{AllOf, loaded, unloaded};
 ghost use Rattle.eb_world.specs.Worlds.{empty_world, tagged};
-ghost use Rattle.eb_session.specs.Objects.{the_place};
+ghost use Rattle.eb_session.specs.Images.{the_place};
 ghost use Rattle.eb_session.specs.Machine.{IsSection, is_changed, bytes_of, refreshed_live, refreshed_made, times_loaded};
 
-use eb_base::{Memory, Place, Text};
+use crate::imaging::THE_PLACE;
+use eb_base::{Memory, Text};
 use eb_file::Image;
 use eb_query::{Query, QueryFault};
 use eb_schema::Schema;
 use eb_stream::{LoadFault, load, unload};
 use eb_world::World;
 use std::alloc::Global;
-
-/// The section that all objects are in.
-const THE_PLACE: Place = Place {
-    scene: 1,
-    section: 0,
-};
 
 /// The section as it was last published.
 #[derive(Drop)]
@@ -32,9 +26,9 @@ pub struct Published {
 }
 
 /// Whether these bytes differ from the published ones, or none are published.
-pub fn is_new(published: &Option<Published>, bytes: &[u8]) -> bool
-    requires { IfSome published.now (λ p. p.bytes.items ≡ bytes_of p.image) }
-    ensures { result ≡ is_changed (option_map (λ p. p.image) published.now) bytes.now }
+pub fn is_new(schema: &Schema, published: &Option<Published>, bytes: &[u8]) -> bool
+    requires { IfSome published.now (λ p. p.bytes.items ≡ bytes_of schema.now p.image) }
+    ensures { result ≡ is_changed schema.now (option_map (λ p. p.image) published.now) bytes.now }
 {
     match published {
         Some(old) => old.bytes.as_slice() != bytes,
@@ -62,8 +56,7 @@ pub fn new_world(alloc: Global, schema: &Schema) -> Result<World, Memory>
 /// Brings the section into a world in which nothing lives.
 fn bring_into_empty(alloc: Global, world: &mut World, image: &Image) -> Result<(), Memory>
     requires empty { world.old.live ≡ empty }
-    requires types { world.old.types ≡ plain_types }
-    requires section { IsSection image.now }
+    requires section { IsSection world.old.types image.now }
     requires made { world.old.made + 16384 < 2 ^ 62 }
     ensures live { OnOk result (world.new.live ≡ loaded world.old.live image.now) }
     ensures made { OnOk result (world.new.made ≡ world.old.made + length image.now.rows) }
@@ -85,8 +78,7 @@ pub fn bring_in(
     image: &Image,
 ) -> Result<(), Memory>
     requires empty { world.old.live ≡ empty }
-    requires types { world.old.types ≡ plain_types }
-    requires section { IsSection image.now }
+    requires section { IsSection world.old.types image.now }
     requires made { world.old.made + 16384 < 2 ^ 62 }
     ensures live { OnOk result (world.new.live ≡ loaded world.old.live image.now) }
     ensures made { OnOk result (world.new.made ≡ world.old.made + length image.now.rows) }
@@ -122,8 +114,7 @@ pub fn take_over(
     next: Published,
 ) -> Result<(), Memory>
     requires of_section { AllOf (Some the_place) world.old.live }
-    requires types { world.old.types ≡ plain_types }
-    requires section { IsSection next.image }
+    requires section { IsSection world.old.types next.image }
     requires made { world.old.made + 16384 < 2 ^ 62 }
     ensures published { OnOk result (published.new ≡ Some next) }
     ensures kept { OnErr result (published.new ≡ published.old) }

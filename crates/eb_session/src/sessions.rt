@@ -1,42 +1,44 @@
 // A session: the project as it stands, what of it is published, and the world that it runs in.
-ghost use Rattle.std.specs.Prelude.{◌≡◌, ◌<◌, ◌≤◌, ◌+◌, ◌^◌, ℕ, Option, Some, None, List, length, option_map, IfOk, IfSome, IsErrOf, OnOk, string_bytes};
+ghost use Rattle.std.specs.Prelude.{◌≡◌, ◌<◌, ◌≤◌, ◌+◌, ◌^◌, Some, Ok, codes, option_map, IfOk, IfSome, IsErrOf, OnOk, string_bytes};
 ghost use Rattle.eb_outside.specs.Causes.{Rose};
 ghost use Rattle.eb_outside.specs.Shelves.{Files};
-ghost use Rattle.eb_session.specs.Objects.{value_of, image_of};
-ghost use Rattle.eb_session.specs.Machine.{State, step, bytes_of, section_name, is_changed, published, field_set, dumped, answered, IsSection};
+ghost use Rattle.eb_file.specs.Images.{IsPlain};
+ghost use Rattle.eb_session.specs.Images.{image_in};
+ghost use Rattle.eb_session.specs.Machine.{State, step, bytes_of, section_name, published, published_as, edit_step, project_step, dumped, performed, answered, IsSection};
 ghost use Rattle.eb_session.specs.Machine as machine;
-ghost use Rattle.eb_session.specs.Opening.{objects_of, opened, OpensAs};
-ghost use Rattle.eb_session.specs.Requests.{request_of};
+ghost use Rattle.eb_session.specs.Opening.{opened, Opens, OpensAs};
+ghost use Rattle.eb_session.specs.Opening as opening;
+ghost use Rattle.std.specs.FinMap.{get};
+ghost use Rattle.eb_scene.specs.Validity.{IsEdit};
+ghost use Rattle.eb_session.specs.Requests.{request_of, IsRequest};
 ghost use Rattle.eb_session.specs.declared.requests.Request.TheVariants.{Publish};
 
 use crate::errors::{OpenEnd, SessionEnd};
-use crate::object_table::ObjectTable;
-use crate::plain_project::project_objects;
+use crate::imaging::image;
+use crate::opening::{PROJECT_FILE, SCHEMA_FILE, project_in, schema_in};
 use crate::replies;
 use crate::replies::Reply;
-use crate::requests::{LineMode, Request, read_request};
+use crate::requests::{LineMode, Request, RequestFault, read_request};
 use crate::sections::{
     Published, bring_in, is_new, new_world, take_out, take_over, times_loaded, world_text,
 };
 use eb_base::{Memory, Steps};
+use eb_copy::CopyBaker;
 use eb_file::encode;
-use eb_json::document;
 use eb_outside::Shelf;
+use eb_scene::{Edit, EditFault, Project};
+use eb_scene_text::project_text;
 use eb_schema::Schema;
 use eb_world::World;
 use std::alloc::{AllocError, Global};
 use std::marker::Model;
 use std::sync::ledger::Ledger;
 
-/// The file that a session is opened from.
-const PROJECT_FILE: &str = "project.json";
-
 /// A session over a folder. Contracts see it as a state of the machine.
 #[derive(Drop)]
 pub struct Session {
     alloc: Global,
-    schema: Schema,
-    objects: ObjectTable,
+    baker: CopyBaker,
     generation: u64,
     published: Option<Published>,
     is_loaded: bool,
@@ -45,18 +47,18 @@ pub struct Session {
 
 impl Model for Session {
     ghost use Rattle.std.specs.Prelude.{◌≡◌, option_map, IfSome};
-    ghost use Rattle.eb_schema.specs.Schemas.{plain_types};
     ghost use Rattle.eb_session.specs.Machine.{State, IsKept, bytes_of, state_code};
     ghost use Rattle.std.specs.Coded.{coded_list};
+    ghost use Rattle.eb_copy.specs.contracts.bakers.CopyBaker as copying;
     ghost use Rattle.eb_schema.specs.contracts.rows.Cell as cell;
     ghost use Rattle.eb_file.specs.contracts.images.Image as image;
 
     ghost Value = { State };
 
-    ghost coded = { state_code (coded_list cell.the_row.coded) image.the_row.coded };
+    ghost coded = { state_code copying.the_row.coded (coded_list cell.the_row.coded) image.the_row.coded };
 
     ghost view = { λ s. record {
-      objects = s.objects;
+      project = s.baker;
       generation = s.generation;
       published = option_map (λ p. p.image) s.published;
       is_loaded = s.is_loaded;
@@ -64,22 +66,8 @@ impl Model for Session {
       made = s.world.made;
     } };
 
-    ghost invariant = { λ s. (s.schema ≡ plain_types) × (s.world.types ≡ plain_types) × IfSome s.published (λ p. p.bytes.items ≡ bytes_of p.image)
-        × IsKept (record { objects = s.objects; generation = s.generation; published = option_map (λ p. p.image) s.published; is_loaded = s.is_loaded; live = s.world.live; made = s.world.made }) };
-}
-
-/// The objects that the bytes of a project file spell. None where there is no file, or another document.
-#[tactic(auto, unfolding(crate::specs::Opening::objects_of))]
-fn found_objects(alloc: Global, found: Option<Vec<u8>>) -> Result<Option<ObjectTable>, Memory>
-    ensures { IfOk result (λ objects. objects ≡ objects_of (option_map (λ v. v.items) found)) }
-{
-    let Some(bytes) = found else {
-        return Ok(None);
-    };
-    match document(alloc, bytes.as_slice())? {
-        Some(value) => project_objects(alloc, &value),
-        None => Ok(None),
-    }
+    ghost invariant = { λ s. (s.world.types ≡ s.baker.schema) × IfSome s.published (λ p. p.bytes.items ≡ bytes_of s.baker.schema p.image)
+        × IsKept (record { project = s.baker; generation = s.generation; published = option_map (λ p. p.image) s.published; is_loaded = s.is_loaded; live = s.world.live; made = s.world.made }) };
 }
 
 /// The name of the section file that a publication of this generation writes.
@@ -90,9 +78,50 @@ fn section_file(alloc: Global, generation: u64) -> Result<String, AllocError>
     format!(in alloc; "g{generation}-1-0.sec")
 }
 
+/// The section that a publication of the project would write; none where the project isn't published yet.
+#[tactic(auto, unfolding(crate::specs::Machine::bytes_of))]
+fn baked(alloc: Global, baker: &CopyBaker) -> Result<Option<Published>, Memory>
+    ensures image { IfOk result (λ found. option_map (λ p. p.image) found ≡ image_in baker.now) }
+    ensures bytes { IfOk result (λ found. IfSome found (λ p. p.bytes.items ≡ bytes_of baker.now.schema p.image)) }
+    ensures section { IfOk result (λ found. IfSome found (λ p. IsSection baker.now.schema p.image)) }
+{
+    match image(alloc, baker)? {
+        Some(image) => {
+            let bytes = encode(alloc, baker.project().schema(), &image)?;
+            Ok(Some(Published { image, bytes }))
+        }
+        None => Ok(None),
+    }
+}
+
+/// The schema of the folder.
+fn read_schema<H: Shelf>(alloc: Global, shelf: &mut H) -> Result<Schema, OpenEnd>
+    ensures schema { IfSome (H.files shelf.old) (λ files. Opens (λ s. s) result (opening.schema_in (get files (codes "schema.json")))) }
+    ensures files { H.files shelf.new ≡ H.files shelf.old }
+    ensures later { H.faults shelf.old ≤ H.faults shelf.new }
+    ensures cause { IsErrOf result OpenEnd.Shelf → Rose (H.faults shelf.old) (H.faults shelf.new) }
+{
+    let found = shelf.read(SCHEMA_FILE)?;
+    let schema = schema_in(alloc, found)?;
+    Ok(schema)
+}
+
+/// The project of the folder, under its schema.
+fn read_project<H: Shelf>(alloc: Global, schema: &Schema, shelf: &mut H) -> Result<Project, OpenEnd>
+    ensures project { IfSome (H.files shelf.old) (λ files. Opens (λ p. p) result (opening.project_in schema.now (get files (codes "project.json")))) }
+    ensures schema { IfOk result (λ p. p.schema ≡ schema.now) }
+    ensures files { H.files shelf.new ≡ H.files shelf.old }
+    ensures later { H.faults shelf.old ≤ H.faults shelf.new }
+    ensures cause { IsErrOf result OpenEnd.Shelf → Rose (H.faults shelf.old) (H.faults shelf.new) }
+{
+    let found = shelf.read(PROJECT_FILE)?;
+    let project = project_in(alloc, schema, found)?;
+    Ok(project)
+}
+
 impl Session {
-    /// Opens a session on the folder: reads `project.json`. Baking will count its runs in `steps`; none are
-    /// counted yet.
+    /// Opens a session on the folder: reads `schema.json`, and then `project.json`. Baking will count its runs in
+    /// `steps`; none are counted yet.
     #[tactic(auto, unfolding(crate::specs::Opening::opened))]
     pub fn open<H: Shelf, L: Ledger>(
         alloc: Global,
@@ -106,37 +135,18 @@ impl Session {
         ensures later { H.faults shelf.old ≤ H.faults shelf.new }
         ensures cause { IsErrOf result OpenEnd.Shelf → Rose (H.faults shelf.old) (H.faults shelf.new) }
     {
-        let found = shelf.read(PROJECT_FILE)?;
-        match found_objects(alloc, found)? {
-            Some(objects) => {
-                let schema = Schema::plain(alloc)?;
-                let world = new_world(alloc, &schema)?;
-                Ok(Session {
-                    alloc,
-                    schema,
-                    objects,
-                    generation: 0,
-                    published: None,
-                    is_loaded: false,
-                    world,
-                })
-            }
-            None => Err(OpenEnd::Refused {
-                line: replies::refused_line(alloc)?,
-            }),
-        }
-    }
-
-    /// What baking the project from nothing puts into the section.
-    #[tactic(auto, unfolding(crate::specs::Machine::bytes_of))]
-    fn baked(&self) -> Result<Published, Memory>
-        ensures image { IfOk result (λ p. p.image ≡ image_of self.now.objects) }
-        ensures bytes { IfOk result (λ p. p.bytes.items ≡ bytes_of p.image) }
-        ensures section { IfOk result (λ p. IsSection p.image) }
-    {
-        let image = self.objects.image(self.alloc)?;
-        let bytes = encode(self.alloc, &self.schema, &image)?;
-        Ok(Published { image, bytes })
+        let schema = read_schema(alloc, shelf)?;
+        let project = read_project(alloc, &schema, shelf)?;
+        let world = new_world(alloc, &schema)?;
+        let baker = CopyBaker::open(alloc, project)?;
+        Ok(Session {
+            alloc,
+            baker,
+            generation: 0,
+            published: None,
+            is_loaded: false,
+            world,
+        })
     }
 
     /// Publishes the project as it stands.
@@ -150,10 +160,32 @@ impl Session {
         ensures later { H.faults shelf.old ≤ H.faults shelf.new }
         ensures cause { IsErrOf result SessionEnd.Shelf → Rose (H.faults shelf.old) (H.faults shelf.new) }
     {
+        match baked(self.alloc, &self.baker)? {
+            Some(next) => self.publish_section(next, shelf),
+            None => Ok(replies::not_yet(self.alloc)?),
+        }
+    }
+
+    /// Publishes the section, which baking the project as it stands has made.
+    fn publish_section<H: Shelf>(
+        &mut self,
+        next: Published,
+        shelf: &mut H,
+    ) -> Result<Reply, SessionEnd>
+        requires generation { self.old.generation < 2 ^ 62 }
+        requires made { self.old.made + 16384 < 2 ^ 62 }
+        requires bytes { next.bytes.items ≡ bytes_of self.old.project.schema next.image }
+        requires section { IsSection self.old.project.schema next.image }
+        ensures step { IfOk result (λ reply. option_map (published_as (Some next.image) self.old) (H.files shelf.old) ≡ option_map (step reply.text self.new) (H.files shelf.new)) }
+        ensures count { OnOk result (self.new.generation ≤ self.old.generation + 1) }
+        ensures made { OnOk result (self.new.made ≤ self.old.made + 16384) }
+        ensures later { H.faults shelf.old ≤ H.faults shelf.new }
+        ensures cause { IsErrOf result SessionEnd.Shelf → Rose (H.faults shelf.old) (H.faults shelf.new) }
+    {
         let alloc = self.alloc;
         let generation = self.generation + 1;
-        let next = self.baked()?;
-        if !is_new(&self.published, next.bytes.as_slice()) {
+        let schema = self.baker.project().schema();
+        if !is_new(schema, &self.published, next.bytes.as_slice()) {
             let reply = replies::published(alloc, generation, 0, 0)?;
             self.generation = generation;
             return Ok(reply);
@@ -172,22 +204,42 @@ impl Session {
         Ok(reply)
     }
 
-    /// Gives an object's field another value.
-    fn set_field(&mut self, object: u32, value: i64) -> Result<Reply, Memory>
-        ensures step { IfOk result (λ reply. (files : Files) → field_set (value_of self.old.objects object) object value self.old files ≡ step reply.text self.new files) }
+    /// Changes the project, or refuses to.
+    fn edit(&mut self, edit: &Edit) -> Result<Reply, Memory>
+        requires { IsEdit edit.now }
+        ensures step { IfOk result (λ reply. (files : Files) → edit_step edit.now self.old files ≡ step reply.text self.new files) }
         ensures count { OnOk result (self.new.generation ≡ self.old.generation) }
         ensures made { OnOk result (self.new.made ≡ self.old.made) }
     {
-        if self.objects.value(object).is_none() {
-            return replies::no_object(self.alloc);
+        match self.baker.edit(edit) {
+            Ok(done) => replies::rebaked(self.alloc, done.rerun, done.runs),
+            Err(EditFault::Memory) => Err(Memory),
+            Err(fault) => replies::edit_refused(self.alloc, fault),
         }
-        let reply = replies::rebaked(self.alloc, self.objects.len())?;
-        self.objects.set(object, value);
-        Ok(reply)
+    }
+
+    /// Prints the project.
+    fn print(&self) -> Result<Reply, Memory>
+        ensures { IfOk result (λ reply. (files : Files) → project_step self.now files ≡ step reply.text self.now files) }
+    {
+        replies::project(project_text(self.alloc, self.baker.project())?)
+    }
+
+    /// Loads a section as it was last published.
+    fn load(&mut self, scene: u8, section: u8) -> Result<Reply, Memory>
+        requires { self.old.made + 16384 < 2 ^ 62 }
+        ensures step { IfOk result (λ reply. (files : Files) → machine.load_step scene section self.old files ≡ step reply.text self.new files) }
+        ensures count { OnOk result (self.new.generation ≡ self.old.generation) }
+        ensures made { OnOk result (self.new.made ≤ self.old.made + 16384) }
+    {
+        if scene != 1 || section != 0 {
+            return replies::no_section(self.alloc);
+        }
+        self.load_published()
     }
 
     /// Loads the section as it was last published.
-    fn load(&mut self) -> Result<Reply, Memory>
+    fn load_published(&mut self) -> Result<Reply, Memory>
         requires { self.old.made + 16384 < 2 ^ 62 }
         ensures step { IfOk result (λ reply. (files : Files) → machine.load self.old.published self.old.is_loaded self.old files ≡ step reply.text self.new files) }
         ensures count { OnOk result (self.new.generation ≡ self.old.generation) }
@@ -210,8 +262,20 @@ impl Session {
         Ok(reply)
     }
 
+    /// Unloads a section.
+    fn unload(&mut self, scene: u8, section: u8) -> Result<Reply, Memory>
+        ensures step { IfOk result (λ reply. (files : Files) → machine.unload_step scene section self.old files ≡ step reply.text self.new files) }
+        ensures count { OnOk result (self.new.generation ≡ self.old.generation) }
+        ensures made { OnOk result (self.new.made ≡ self.old.made) }
+    {
+        if scene != 1 || section != 0 {
+            return replies::no_section(self.alloc);
+        }
+        self.unload_published()
+    }
+
     /// Unloads the section.
-    fn unload(&mut self) -> Result<Reply, Memory>
+    fn unload_published(&mut self) -> Result<Reply, Memory>
         ensures step { IfOk result (λ reply. (files : Files) → machine.unload self.old.published self.old.is_loaded self.old files ≡ step reply.text self.new files) }
         ensures count { OnOk result (self.new.generation ≡ self.old.generation) }
         ensures made { OnOk result (self.new.made ≡ self.old.made) }
@@ -230,8 +294,31 @@ impl Session {
     fn dump(&self) -> Result<Reply, Memory>
         ensures { IfOk result (λ reply. (files : Files) → dumped self.now files ≡ step reply.text self.now files) }
     {
-        let entities = world_text(self.alloc, &self.world, &self.schema)?;
+        let schema = self.baker.project().schema();
+        let entities = world_text(self.alloc, &self.world, schema)?;
         replies::dumped(self.alloc, entities, self.world.live())
+    }
+
+    /// Does what a line asks for. The shelf can end the session where that is a publication, and nowhere else.
+    fn perform<H: Shelf>(&mut self, request: &Request, shelf: &mut H) -> Result<Reply, SessionEnd>
+        requires generation { self.old.generation < 2 ^ 62 }
+        requires made { self.old.made + 16384 < 2 ^ 62 }
+        requires edit { IsRequest request.now }
+        ensures step { IfOk result (λ reply. option_map (performed request.now self.old) (H.files shelf.old) ≡ option_map (step reply.text self.new) (H.files shelf.new)) }
+        ensures count { OnOk result (self.new.generation ≤ self.old.generation + 1) }
+        ensures made { OnOk result (self.new.made ≤ self.old.made + 16384) }
+        ensures later { H.faults shelf.old ≤ H.faults shelf.new }
+        ensures cause { IsErrOf result SessionEnd.Shelf → Rose (H.faults shelf.old) (H.faults shelf.new) }
+        ensures publishes { IsErrOf result SessionEnd.Shelf → request.now ≡ Publish }
+    {
+        match request {
+            Request::Publish => self.publish(shelf),
+            Request::Edit(edit) => Ok(self.edit(edit)?),
+            Request::Dump => Ok(self.dump()?),
+            Request::Project => Ok(self.print()?),
+            Request::Load { scene, section } => Ok(self.load(*scene, *section)?),
+            Request::Unload { scene, section } => Ok(self.unload(*scene, *section)?),
+        }
     }
 
     /// Answers one line, without its line feed. The shelf can end the session where the line asks for a
@@ -251,15 +338,12 @@ impl Session {
         ensures made { OnOk result (self.new.made ≤ self.old.made + 16384) }
         ensures later { H.faults shelf.old ≤ H.faults shelf.new }
         ensures cause { IsErrOf result SessionEnd.Shelf → Rose (H.faults shelf.old) (H.faults shelf.new) }
-        ensures publishes { IsErrOf result SessionEnd.Shelf → request_of line.now ≡ Some Publish }
+        ensures publishes { IsErrOf result SessionEnd.Shelf → request_of line.now ≡ Ok Publish }
     {
-        match read_request(self.alloc, line)? {
-            Some(Request::Publish) => self.publish(shelf),
-            Some(Request::SetField { object, value }) => Ok(self.set_field(object, value)?),
-            Some(Request::Load) => Ok(self.load()?),
-            Some(Request::Unload) => Ok(self.unload()?),
-            Some(Request::Dump) => Ok(self.dump()?),
-            None => Ok(replies::not_yet(self.alloc)?),
+        match read_request(self.alloc, line) {
+            Ok(request) => self.perform(&request, shelf),
+            Err(RequestFault::Memory) => Err(SessionEnd::Memory),
+            Err(fault) => Ok(replies::no_request(self.alloc, fault)?),
         }
     }
 }

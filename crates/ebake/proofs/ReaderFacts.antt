@@ -8,7 +8,7 @@ use Rattle.eb_outside.proofs.Laws.{appended-append, appended-nil}
 use Rattle.eb_outside.specs.declared.errors.OutsideError.{OutsideError}
 use Rattle.eb_outside.specs.declared.errors.OutsideError.TheVariants as outside
 use Rattle.ebake.specs.Stops.{stop_of_outside}
-use Rattle.eb_session.specs.Machine.{State, Step, step, answered, performed}
+use Rattle.eb_session.specs.Machine.{State, Step, step, answered, replied}
 use Rattle.eb_session.specs.Requests.{request_of}
 use Rattle.eb_session.specs.declared.requests.Request.TheVariants.{Publish}
 use Rattle.eb_session.proofs.RequestFacts.{request_of-long}
@@ -204,7 +204,7 @@ request_of-kept reader line ready is_at = kept_or_none reader.line.items is_at.r
 answered_as : (a b : List ℕ) (state : State) (files : Option Files) → request_of a ≡ request_of b → option_map (answered a state) files ≡ option_map (answered b state) files
 unfolding answered
 answered_as a b state None same = refl
-answered_as a b state (Some files) same = ap (λ r. Some (performed r state files)) same
+answered_as a b state (Some files) same = ap (λ r. Some (replied r state files)) same
 
 pub answered-kept : (reader : Reader) (line : List ℕ) (files : Option Files) → IsReady reader → IsAt reader line → option_map (answered line reader.session) files ≡ option_map (answered reader.line.items reader.session) files
 answered-kept reader line files ready is_at = answered_as line reader.line.items reader.session files (request_of-kept reader line ready is_at)
@@ -316,7 +316,7 @@ IsCut-given T (Err Outside) start new taken before after held between now goes f
 IsCut-given T (Err Memory) start new taken before after held between now goes front = record { begins = goes.begins; given = IsFrontOf-then now between (appended held goes.begins.reply) front goes.given }
 
 -- the line feed of a line that asks for a publication
-pub MeetsPublish-here : (start : Standing) (byte : ℕ) (files : Option Files) (held now : Option (List ℕ)) → byte ≡ 10 → IsLine start.line → 0 < start.lines → length start.line < start.bytes → request_of start.line ≡ Some Publish → now ≡ held
+pub MeetsPublish-here : (start : Standing) (byte : ℕ) (files : Option Files) (held now : Option (List ℕ)) → byte ≡ 10 → IsLine start.line → 0 < start.lines → length start.line < start.bytes → request_of start.line ≡ Ok Publish → now ≡ held
     → MeetsPublish start (byte ∷ []) files held now
 MeetsPublish-here start byte files held now feed clean may room publishes same = record {
   begins = Begins-none start (byte ∷ []) files;

@@ -139,7 +139,7 @@ held_now : (start at : Standing) (taken reply : List ℕ) (before : Files) (afte
 held_now start at taken reply before after held now x replies = same_Some now (held ++ reply) replies ∙ ap (λ r. held ++ r) (sym (reply_of x.lines start.state at.state before after reply x.told))
 
 -- all whole lines that were taken are answered
-pub HasAnswered-on : (start : Standing) (reader : Reader) (taken : List ℕ) (before after : Option Files) (input left held now : Option (List ℕ)) → start.line ≡ [] → IfSome before (λ files. opened files ≡ Some start.state) → input ≡ behind_taken taken left
+pub HasAnswered-on : (start : Standing) (reader : Reader) (taken : List ℕ) (before after : Option Files) (input left held now : Option (List ℕ)) → start.line ≡ [] → IfSome before (λ files. opened files ≡ Ok start.state) → input ≡ behind_taken taken left
     → ReadsOn start reader taken before after held now → HasAnswered before input left held now
 HasAnswered-on start reader taken None after input left held now fresh opens parts x = tt
 HasAnswered-on start reader taken (Some before) after None left held now fresh opens parts x = tt
@@ -168,7 +168,7 @@ planned_on start at taken reply before after rest x fresh =
     ∙ ap (λ n. plan (at.lines + length x.lines) n (with_feeds x.lines ++ (at.line ++ rest))) (sym x.bytes_left)
     ∙ plan-lines x.lines at.lines at.bytes (at.line ++ rest) x.clean
 
-next_publishes : (start : Standing) (taken : List ℕ) (before : Files) (input left held now : List ℕ) → start.line ≡ [] → opened before ≡ Some start.state → input ≡ taken ++ left
+next_publishes : (start : Standing) (taken : List ℕ) (before : Files) (input left held now : List ℕ) → start.line ≡ [] → opened before ≡ Ok start.state → input ≡ taken ++ left
     → MeetsPublish start taken (Some before) (Some held) (Some now) → NextPublishes start.lines start.bytes before input held now
 next_publishes start taken before input left held now fresh opens parts x =
     let b = x.begins in
@@ -191,7 +191,7 @@ next_publishes start taken before input left held now fresh opens parts x =
     }
 
 -- a line that ended asks for a publication
-pub IsAtPublication-meets : (start : Standing) (taken : List ℕ) (before : Option Files) (input left held now : Option (List ℕ)) → start.line ≡ [] → IfSome before (λ files. opened files ≡ Some start.state) → input ≡ behind_taken taken left
+pub IsAtPublication-meets : (start : Standing) (taken : List ℕ) (before : Option Files) (input left held now : Option (List ℕ)) → start.line ≡ [] → IfSome before (λ files. opened files ≡ Ok start.state) → input ≡ behind_taken taken left
     → MeetsPublish start taken before held now → IsAtPublication start.lines start.bytes before input held now
 IsAtPublication-meets start taken None input left held now fresh opens parts x = tt
 IsAtPublication-meets start taken (Some before) None left held now fresh opens parts x = tt
@@ -201,8 +201,8 @@ IsAtPublication-meets start taken (Some before) (Some input) None (Some held) (S
 IsAtPublication-meets start taken (Some before) (Some input) (Some left) (Some held) (Some now) fresh opens parts x =
     next_publishes start taken before input left held now fresh opens (same_Some input (taken ++ left) parts) x
 
-last_publishes : (start : Standing) (reader : Reader) (taken : List ℕ) (before : Files) (after : Option Files) (input left held now : List ℕ) (x : ReadsOn start reader taken (Some before) after (Some held) (Some now)) → start.line ≡ [] → opened before ≡ Some start.state
-    → input ≡ taken ++ left → left ≡ [] → IsReady reader → 0 < length x.line → request_of x.line ≡ Some Publish → NextPublishes start.lines start.bytes before input held now
+last_publishes : (start : Standing) (reader : Reader) (taken : List ℕ) (before : Files) (after : Option Files) (input left held now : List ℕ) (x : ReadsOn start reader taken (Some before) after (Some held) (Some now)) → start.line ≡ [] → opened before ≡ Ok start.state
+    → input ≡ taken ++ left → left ≡ [] → IsReady reader → 0 < length x.line → request_of x.line ≡ Ok Publish → NextPublishes start.lines start.bytes before input held now
 last_publishes start reader taken before after input left held now x fresh opens parts spent ready some publishes =
     let at = standing reader x.line in
     let whole : input ≡ taken ++ [] = parts ∙ ap (λ l. taken ++ l) spent in
@@ -222,8 +222,8 @@ last_publishes start reader taken before after input left held now x fresh opens
     }
 
 -- the last line, which no line feed ends, asks for one
-pub IsAtPublication-last : (start : Standing) (reader : Reader) (taken : List ℕ) (before after : Option Files) (input left held now : Option (List ℕ)) (x : ReadsOn start reader taken before after held now) → start.line ≡ [] → IfSome before (λ files. opened files ≡ Some start.state)
-    → input ≡ behind_taken taken left → IsSpent left → IsReady reader → 0 < length reader.line.items → request_of reader.line.items ≡ Some Publish → IsAtPublication start.lines start.bytes before input held now
+pub IsAtPublication-last : (start : Standing) (reader : Reader) (taken : List ℕ) (before after : Option Files) (input left held now : Option (List ℕ)) (x : ReadsOn start reader taken before after held now) → start.line ≡ [] → IfSome before (λ files. opened files ≡ Ok start.state)
+    → input ≡ behind_taken taken left → IsSpent left → IsReady reader → 0 < length reader.line.items → request_of reader.line.items ≡ Ok Publish → IsAtPublication start.lines start.bytes before input held now
 IsAtPublication-last start reader taken None after input left held now x fresh opens parts spent ready some publishes = tt
 IsAtPublication-last start reader taken (Some before) after None left held now x fresh opens parts spent ready some publishes = tt
 IsAtPublication-last start reader taken (Some before) after (Some input) left None now x fresh opens parts spent ready some publishes = tt

@@ -7,7 +7,6 @@ use Rattle.eb_outside.specs.Shelves.{Files}
 use Rattle.eb_outside.specs.Streams.{appended}
 use Rattle.eb_session.specs.Machine.{State}
 use Rattle.eb_session.specs.Opening.{opened}
-use Rattle.eb_session.specs.Replies.{refused_text}
 use Rattle.ebake.specs.Lines.{pieces, all_lines, plan_where, plan_of, plan}
 use Rattle.ebake.specs.Words.{is_form, usage_text}
 use Rattle.ebake.specs.Told.{End, replay, session_end, opened_end, run_end, told, ended, end_with, WhereTold, IsWithin}
@@ -26,16 +25,15 @@ told-no_form lines bytes words (Some files) None held form = refl
 told-no_form lines bytes words (Some files) (Some left) None form = refl
 told-no_form lines bytes words (Some files) (Some left) (Some held) form = ap (λ b. Some (run_end b lines bytes files left held)) form
 
-pub told-refused : (lines bytes : ℕ) (words : List (List ℕ)) (line : List ℕ) (files : Option Files) (left held : Option (List ℕ)) → is_form words ≡ true → IfSome files (λ f. (opened f ≡ None) × (line ≡ refused_text)) → told lines bytes words files left held ≡ ended 3 files left (appended held line)
+pub told-refused : (lines bytes : ℕ) (words : List (List ℕ)) (line : List ℕ) (files : Option Files) (left held : Option (List ℕ)) → is_form words ≡ true → IfSome files (λ f. opened f ≡ Err line) → told lines bytes words files left held ≡ ended 3 files left (appended held line)
 unfolding told
 told-refused lines bytes words line None left held form refused = refl
 told-refused lines bytes words line (Some files) None held form refused = refl
 told-refused lines bytes words line (Some files) (Some left) None form refused = refl
 told-refused lines bytes words line (Some files) (Some left) (Some held) form refused =
-    ap (λ b. Some (run_end b lines bytes files left held)) form ∙ ap (λ o. Some (opened_end lines bytes o files left held)) refused.0
-    ∙ ap (λ l. Some (end_with 3 (held ++ l) files)) (sym refused.1)
+    ap (λ b. Some (run_end b lines bytes files left held)) form ∙ ap (λ o. Some (opened_end lines bytes o files left held)) refused
 
-pub told-opened : (lines bytes : ℕ) (words : List (List ℕ)) (state : State) (files : Option Files) (left held : Option (List ℕ)) → is_form words ≡ true → IfSome files (λ f. opened f ≡ Some state) → told lines bytes words files left held ≡ whole (first_standing lines bytes state) files left held
+pub told-opened : (lines bytes : ℕ) (words : List (List ℕ)) (state : State) (files : Option Files) (left held : Option (List ℕ)) → is_form words ≡ true → IfSome files (λ f. opened f ≡ Ok state) → told lines bytes words files left held ≡ whole (first_standing lines bytes state) files left held
 unfolding told
 told-opened lines bytes words state None left held form opens = refl
 told-opened lines bytes words state (Some files) None held form opens = refl
@@ -43,10 +41,10 @@ told-opened lines bytes words state (Some files) (Some left) None form opens = r
 told-opened lines bytes words state (Some files) (Some left) (Some held) form opens =
     ap (λ b. Some (run_end b lines bytes files left held)) form ∙ ap (λ o. Some (opened_end lines bytes o files left held)) opens
 
-opened_front : (lines bytes : ℕ) (found : Option State) (files : Files) (left held : List ℕ) → IsFront (Some held) (Some (opened_end lines bytes found files left held))
+opened_front : (lines bytes : ℕ) (found : Result State (List ℕ)) (files : Files) (left held : List ℕ) → IsFront (Some held) (Some (opened_end lines bytes found files left held))
 unfolding session_end
-opened_front lines bytes None files left held = (held, refused_text, refl, refl)
-opened_front lines bytes (Some state) files left held = (held, (replay (plan lines bytes left).lines state files).reply, refl, refl)
+opened_front lines bytes (Err line) files left held = (held, line, refl, refl)
+opened_front lines bytes (Ok state) files left held = (held, (replay (plan lines bytes left).lines state files).reply, refl, refl)
 
 run_front : (form : Bool) (lines bytes : ℕ) (files : Files) (left held : List ℕ) → IsFront (Some held) (Some (run_end form lines bytes files left held))
 run_front false lines bytes files left held = (held, usage_text, refl, refl)

@@ -1,5 +1,5 @@
 -- What a run has done when a fault of the outside ends it: how far its replies go, and what comes next.
-use Rattle.std.specs.Prelude.{◌≡◌, ℕ, ◌++◌, Option, None, Some, List, ◌∷◌, ⊤}
+use Rattle.std.specs.Prelude.{◌≡◌, ℕ, ◌++◌, Option, None, Some, Ok, List, ◌∷◌, ⊤}
 use Rattle.eb_outside.specs.Shelves.{Files}
 use Rattle.eb_session.specs.Machine.{State}
 use Rattle.eb_session.specs.Opening.{opened}
@@ -11,7 +11,7 @@ use Rattle.ebake.specs.Told.{replay}
 -- The sink holds the replies to all whole lines among the bytes that were taken.
 pub record AllAnswered (files : Files) (input left held now : List ℕ) : Type 0 where
   pub state : State
-  pub opens : opened files ≡ Some state
+  pub opens : opened files ≡ Ok state
   pub taken : List ℕ
   pub parts : input ≡ taken ++ left
   pub replies : now ≡ held ++ (replay (pieces taken).ended state files).reply
@@ -19,12 +19,12 @@ pub record AllAnswered (files : Files) (input left held now : List ℕ) : Type 0
 -- Behind the replies that the sink holds, the next of the lines to answer asks for a publication.
 pub record NextPublishes (lines bytes : ℕ) (files : Files) (input held now : List ℕ) : Type 0 where
   pub state : State
-  pub opens : opened files ≡ Some state
+  pub opens : opened files ≡ Ok state
   pub before : List (List ℕ)
   pub next : List ℕ
   pub later : List (List ℕ)
   pub planned : (plan lines bytes input).lines ≡ before ++ next ∷ later
-  pub publishes : request_of next ≡ Some Publish
+  pub publishes : request_of next ≡ Ok Publish
   pub replies : now ≡ held ++ (replay before state files).reply
 
 -- the same, where the shelf, the source and the sink tell

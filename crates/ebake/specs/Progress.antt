@@ -126,7 +126,7 @@ pub record MeetsPublish (start : Standing) (taken : List ℕ) (before : Option F
   pub clean : IsLine begins.at.line
   pub may : 0 < begins.at.lines
   pub room : length begins.at.line < begins.at.bytes
-  pub publishes : request_of begins.at.line ≡ Some Publish
+  pub publishes : request_of begins.at.line ≡ Ok Publish
   pub replies : now ≡ appended held begins.reply
 
 -- Reading goes on, or it ends here by a limit; after a fault or want of memory a front of the replies is there.

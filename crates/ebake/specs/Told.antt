@@ -1,10 +1,9 @@
 -- The whole run of the program: its status, its output and the files that it leaves.
-use Rattle.std.specs.Prelude.{◌≡◌, ℕ, ◌≤◌, ◌++◌, Bool, true, false, Option, None, Some, List, [], ◌∷◌, length, ⊤}
+use Rattle.std.specs.Prelude.{◌≡◌, ℕ, ◌≤◌, ◌++◌, Bool, true, false, Option, None, Some, Result, Ok, Err, List, [], ◌∷◌, length, ⊤}
 use Rattle.eb_outside.specs.Causes.{Rose}
 use Rattle.eb_outside.specs.Shelves.{Files}
 use Rattle.eb_session.specs.Machine.{State, Step, step, answered}
 use Rattle.eb_session.specs.Opening.{opened}
-use Rattle.eb_session.specs.Replies.{refused_text}
 use Rattle.ebake.specs.Words.{is_form, usage_text}
 use Rattle.ebake.specs.Lines.{pieces, all_lines, Plan, plan}
 
@@ -35,9 +34,9 @@ planned p state files output = end_with p.status (output ++ (replay p.lines stat
 unfoldable pub session_end : ℕ → ℕ → State → Files → List ℕ → List ℕ → End
 session_end lines bytes state files input output = planned (plan lines bytes input) state files output
 
-abbrev pub opened_end : ℕ → ℕ → Option State → Files → List ℕ → List ℕ → End
-opened_end lines bytes None files input output = end_with 3 (output ++ refused_text) files
-opened_end lines bytes (Some state) files input output = session_end lines bytes state files input output
+abbrev pub opened_end : ℕ → ℕ → Result State (List ℕ) → Files → List ℕ → List ℕ → End
+opened_end lines bytes (Err line) files input output = end_with 3 (output ++ line) files
+opened_end lines bytes (Ok state) files input output = session_end lines bytes state files input output
 
 abbrev pub run_end : Bool → ℕ → ℕ → Files → List ℕ → List ℕ → End
 run_end false lines bytes files input output = end_with 2 (output ++ usage_text) files
@@ -65,11 +64,15 @@ WhereTold (Some files) (Some input) None said = ⊤
 WhereTold (Some files) None held said = ⊤
 WhereTold None input held said = ⊤
 
+-- The folder doesn't open.
+abbrev pub IsRefused : Files → Type 0
+IsRefused files = (line : List ℕ) × (opened files ≡ Err line)
+
 -- The words are a form, the folder opens, and the input keeps to the limits on lines and bytes.
 pub record IsWithin (lines bytes : ℕ) (words : List (List ℕ)) (files : Files) (input : List ℕ) : Type 0 where
   pub form : is_form words ≡ true
   pub state : State
-  pub opens : opened files ≡ Some state
+  pub opens : opened files ≡ Ok state
   pub bytes_fit : length input ≤ bytes
   pub lines_fit : length (all_lines (pieces input)) ≤ lines
 

@@ -1,5 +1,9 @@
 // Inputs, outputs and folders of the runs that are tested.
 
+/// One component, `Value` with a whole number `v`, that is copied from an authoring type of the same name.
+pub const SCHEMA: &str =
+    r#"{"assets":[],"authoring":[{"copy":"Value","fields":[["v","i64"]],"name":"Value","number":1}],"components":[{"fields":[["v","i64"]],"mode":"stored","name":"Value","number":1}]}"#;
+
 /// One object, 1, with the value 7.
 pub const PROJECT: &str =
     r#"{"assets":[],"scenes":[{"number":1,"objects":[{"components":{"Value":{"v":7}},"number":1,"parent":null,"section":null}]}]}"#;
@@ -9,8 +13,6 @@ pub const NO_OBJECTS: &str = r#"{"scenes":[{"objects":[],"number":1}],"assets":[
 pub const PUBLISH: &str = r#"{"do":"publish"}"#;
 
 pub const USAGE: &str = "usage: ebake bake|session|watch|show NAME|sample N\n";
-
-pub const REFUSED: &str = "refused project.json NotYet\n";
 
 /// Sets the greatest value, publishes, sets an object that isn't there, publishes again.
 pub const REQUESTS: &str = concat!(
@@ -99,71 +101,124 @@ pub const OTHER_WORDS: [&[&str]; 6] = [
     &[""],
 ];
 
-/// Projects that don't open, and no project.
-pub const OTHER_PROJECTS: [Option<&str>; 14] = [
-    None,
-    Some(""),
-    Some("{"),
-    Some("[]"),
-    Some(r#"{"assets":[],"scenes":[]}"#),
-    Some(r#"{"assets":[1],"scenes":[{"number":1,"objects":[]}]}"#),
-    Some(r#"{"assets":[],"scenes":[{"number":2,"objects":[]}]}"#),
-    Some(r#"{"assets":[],"scenes":[{"number":1,"objects":[]},{"number":1,"objects":[]}]}"#),
-    Some(r#"{"assets":[],"scenes":[{"number":1,"objects":[]}],"more":1}"#),
-    Some(
-        r#"{"assets":[],"scenes":[{"number":1,"objects":[{"components":{"Value":{"v":1.0}},"number":1,"parent":null,"section":null}]}]}"#,
+/// Projects that don't open, and no project, each with the line that refuses it.
+pub const OTHER_PROJECTS: [(Option<&str>, &str); 13] = [
+    (None, "refused project.json Missing\n"),
+    (Some(r#""#), "refused project.json BadJson\n"),
+    (Some(r#"{"#), "refused project.json BadJson\n"),
+    (Some(r#"[]"#), "refused project.json NotForm 0\n"),
+    (
+        Some(r#"{"assets":[1],"scenes":[{"number":1,"objects":[]}]}"#),
+        "refused project.json NotForm 2\n",
     ),
-    Some(
-        r#"{"assets":[],"scenes":[{"number":1,"objects":[{"components":{"Value":{"v":1}},"number":0,"parent":null,"section":null}]}]}"#,
+    (
+        Some(r#"{"assets":[],"scenes":[{"number":17,"objects":[]}]}"#),
+        "refused project.json NotForm 4\n",
     ),
-    Some(
-        r#"{"assets":[],"scenes":[{"number":1,"objects":[{"components":{"Value":{"v":1}},"number":1,"parent":1,"section":null}]}]}"#,
+    (
+        Some(r#"{"assets":[],"scenes":[{"number":1,"objects":[]},{"number":1,"objects":[]}]}"#),
+        "refused project.json Rule 1 E4 SceneTaken\n",
     ),
-    Some(
-        r#"{"assets":[],"scenes":[{"number":1,"objects":[{"components":{"Value":{"v":1}},"number":1,"parent":null,"section":0}]}]}"#,
+    (
+        Some(r#"{"assets":[],"scenes":[{"number":1,"objects":[]}],"more":1}"#),
+        "refused project.json NotForm 0\n",
     ),
-    Some(
-        r#"{"assets":[],"scenes":[{"number":1,"objects":[{"components":{},"number":1,"parent":null,"section":null}]}]}"#,
+    (
+        Some(
+            r#"{"assets":[],"scenes":[{"number":1,"objects":[{"components":{"Value":{"v":1.0}},"number":1,"parent":null,"section":null}]}]}"#,
+        ),
+        "refused project.json NotForm 9\n",
+    ),
+    (
+        Some(
+            r#"{"assets":[],"scenes":[{"number":1,"objects":[{"components":{"Value":{"v":1}},"number":0,"parent":null,"section":null}]}]}"#,
+        ),
+        "refused project.json NotForm 10\n",
+    ),
+    (
+        Some(
+            r#"{"assets":[],"scenes":[{"number":1,"objects":[{"components":{"Value":{"v":1}},"number":1,"parent":1,"section":null}]}]}"#,
+        ),
+        "refused project.json Rule 2 E8 Cycle\n",
+    ),
+    (
+        Some(
+            r#"{"assets":[],"scenes":[{"number":1,"objects":[{"components":{"Value":{"v":null}},"number":1,"parent":null,"section":null}]}]}"#,
+        ),
+        "refused project.json Rule 2 E12 BadValue 0\n",
+    ),
+    (
+        Some(
+            r#"{"assets":[],"scenes":[{"number":1,"objects":[{"components":{"Other":{}},"number":1,"parent":null,"section":64}]}]}"#,
+        ),
+        "refused project.json Rule 1 E17 SectionRange\n",
+    ),
+];
+
+/// Schemas that don't open, and no schema, each with the line that refuses it.
+pub const OTHER_SCHEMAS: [(Option<&str>, &str); 7] = [
+    (None, "refused schema.json Missing\n"),
+    (Some(r#"nonsense"#), "refused schema.json BadJson\n"),
+    (
+        Some(r#"{"assets":[],"authoring":[],"components":[]} x"#),
+        "refused schema.json BadJson\n",
+    ),
+    (Some(r#"[]"#), "refused schema.json S1 NotForm 0\n"),
+    (
+        Some(
+            r#"{"assets":[],"authoring":[],"components":[{"fields":[],"mode":"stored","name":"A","number":1},{"fields":[],"mode":"stored","name":"A","number":2}]}"#,
+        ),
+        "refused schema.json S2 NameTaken 12\n",
+    ),
+    (
+        Some(
+            r#"{"assets":[],"authoring":[],"components":[{"fields":[],"mode":"stored","name":"A","number":1},{"fields":[],"mode":"stored","name":"B","number":1}]}"#,
+        ),
+        "refused schema.json S3 NumberTaken 13\n",
+    ),
+    (
+        Some(r#"{"assets":[["a","ref"]],"authoring":[],"components":[]}"#),
+        "refused schema.json S5 BadKind 4\n",
     ),
 ];
 
 /// Inputs of a session on `PROJECT`, each with its output.
-pub const INPUTS: [(&str, &str); 21] = [
+pub const INPUTS: [(&str, &str); 26] = [
     ("", ""),
-    ("\n", "E2 NotYet\n"),
-    ("{\n", "E2 NotYet\n"),
+    ("\n", "E2 BadJson\n"),
+    ("{\n", "E2 BadJson\n"),
     (PUBLISH, "ok published 1 changed 1 reloaded 0\n"),
     (
         "{\"do\":\"publish\",\"more\":1}\n[]\n{\"do\":\"publish\"} \n",
-        "E2 NotYet\nE2 NotYet\nok published 1 changed 1 reloaded 0\n",
+        "E2 BadRequest 0\nE2 BadRequest 0\nok published 1 changed 1 reloaded 0\n",
     ),
     (
         r#"{"do":"set_field","field":"v","kind":"Value","object":1,"scene":2,"value":1}"#,
-        "E2 NotYet\n",
+        "E3 NoScene\n",
     ),
     (
         r#"{"do":"set_field","field":"w","kind":"Value","object":1,"scene":1,"value":1}"#,
-        "E2 NotYet\n",
+        "E11 NoField\n",
     ),
     (
         r#"{"do":"set_field","field":"v","kind":"Other","object":1,"scene":1,"value":1}"#,
-        "E2 NotYet\n",
+        "E9 NoType\n",
     ),
     (
         r#"{"do":"set_field","field":"v","kind":"Value","object":0,"scene":1,"value":1}"#,
-        "E2 NotYet\n",
+        "E2 BadRequest 4\n",
     ),
     (
         r#"{"do":"set_field","field":"v","kind":"Value","object":4294967296,"scene":1,"value":1}"#,
-        "E2 NotYet\n",
+        "E2 BadRequest 4\n",
     ),
     (
         r#"{"do":"set_field","field":"v","kind":"Value","object":1,"scene":1,"value":1.5}"#,
-        "E2 NotYet\n",
+        "E2 BadRequest 6\n",
     ),
     (
         r#"{"do":"set_field","field":"v","kind":"Value","object":1,"scene":1,"value":9223372036854775808}"#,
-        "E2 NotYet\n",
+        "E2 BadRequest 6\n",
     ),
     (
         r#"{"do":"set_field","field":"v","kind":"Value","object":4294967295,"scene":1,"value":-9223372036854775808}"#,
@@ -175,11 +230,25 @@ pub const INPUTS: [(&str, &str); 21] = [
     ),
     (WORLD_REQUESTS, WORLD_REPLIES),
     (r#"{"do":"dump"}"#, "ok dumped 0\n"),
-    (r#"{"do":"dump","scene":1}"#, "E2 NotYet\n"),
-    (r#"{"do":"load","scene":1}"#, "E2 NotYet\n"),
-    (r#"{"do":"load","scene":2,"section":0}"#, "E2 NotYet\n"),
-    (r#"{"do":"load","scene":1,"section":1}"#, "E2 NotYet\n"),
-    (r#"{"do":"unload","scene":1,"section":"0"}"#, "E2 NotYet\n"),
+    (r#"{"do":"dump","scene":1}"#, "E2 BadRequest 0\n"),
+    (r#"{"do":"load","scene":1}"#, "E2 BadRequest 0\n"),
+    (r#"{"do":"load","scene":2,"section":0}"#, "E18 NoSection\n"),
+    (r#"{"do":"load","scene":1,"section":1}"#, "E18 NoSection\n"),
+    (
+        r#"{"do":"unload","scene":1,"section":"0"}"#,
+        "E2 BadRequest 3\n",
+    ),
+    (
+        r#"{"do":"load","scene":1,"section":"x"}"#,
+        "E2 BadRequest 3\n",
+    ),
+    (
+        r#"{"do":"load","scene":0,"section":64}"#,
+        "E2 BadRequest 2\n",
+    ),
+    (r#"{"do":"issues"}"#, "E2 NotYet\n"),
+    (r#"{"do":"buffer","commands":[{}]}"#, "E2 NotYet\n"),
+    (r#"{"do":"jump"}"#, "E2 BadRequest 1\n"),
 ];
 
 pub const TWO_LINES: &str = "{\"do\":\"publish\"}\n{\"do\":\"publish\"}\n";

@@ -3,6 +3,8 @@
 
 #[cfg(test)]
 mod cases;
+#[cfg(test)]
+mod edit_cases;
 mod limits;
 mod outlet;
 mod readers;

@@ -1,5 +1,5 @@
 // The reader of request lines: bytes in, replies out, within the limits of a run.
-ghost use Rattle.std.specs.Prelude.{◌≡◌, ◌==◌, ◌++◌, ◌+◌, ◌<◌, ◌≤◌, ◌^◌, ◌⊎◌, ℕ, List, [], ◌∷◌, false, Option, Some, length, OnOk, OnErr, IsErrOf, IsOk};
+ghost use Rattle.std.specs.Prelude.{◌≡◌, ◌==◌, ◌++◌, ◌+◌, ◌<◌, ◌≤◌, ◌^◌, ◌⊎◌, ℕ, List, [], ◌∷◌, false, Option, Some, Ok, length, OnOk, OnErr, IsErrOf, IsOk};
 ghost use Rattle.eb_outside.specs.Causes.{Rose};
 ghost use Rattle.eb_outside.specs.Shelves.{Files};
 ghost use Rattle.eb_outside.specs.Streams.{appended};
@@ -57,7 +57,7 @@ fn answer<H: Shelf, L: Ledger>(
     ensures err { OnErr result (kept.new.items ≡ kept.old.items) }
     ensures later { H.faults shelf.old ≤ H.faults shelf.new }
     ensures cause { IsErrOf result Stop.Outside → Rose (H.faults shelf.old) (H.faults shelf.new) }
-    ensures publishes { IsErrOf result Stop.Outside → request_of line.now ≡ Some Publish }
+    ensures publishes { IsErrOf result Stop.Outside → request_of line.now ≡ Ok Publish }
     ensures no_limit { IsErrOf result Stop.Limit → ⊥ }
 {
     let mut steps: Steps<L> = Steps::open(blank);
@@ -123,7 +123,7 @@ impl Reader {
         ensures err { OnErr result (kept.new.items ≡ kept.old.items) }
         ensures later { H.faults shelf.old ≤ H.faults shelf.new }
         ensures cause { IsErrOf result Stop.Outside → Rose (H.faults shelf.old) (H.faults shelf.new) }
-        ensures publishes { IsErrOf result Stop.Outside → request_of self.old.line.items ≡ Some Publish }
+        ensures publishes { IsErrOf result Stop.Outside → request_of self.old.line.items ≡ Ok Publish }
         ensures no_limit { IsErrOf result Stop.Limit → ⊥ }
     {
         answer::<H, Brand>(
@@ -203,7 +203,7 @@ impl Reader {
         ensures told { (line : List ℕ) (held : Option (List ℕ)) → IsAt self.old line → Finishes result (standing self.old line) (H.files shelf.old) (H.files shelf.new) (appended held kept.old.items) (appended held kept.new.items) }
         ensures later { H.faults shelf.old ≤ H.faults shelf.new }
         ensures cause { IsErrOf result Stop.Outside → Rose (H.faults shelf.old) (H.faults shelf.new) }
-        ensures publishes { IsErrOf result Stop.Outside → (0 < length self.old.line.items) × (request_of self.old.line.items ≡ Some Publish) × (kept.new.items ≡ kept.old.items) }
+        ensures publishes { IsErrOf result Stop.Outside → (0 < length self.old.line.items) × (request_of self.old.line.items ≡ Ok Publish) × (kept.new.items ≡ kept.old.items) }
     {
         if self.line.is_empty() {
             return Ok(());
@@ -252,7 +252,7 @@ impl Reader {
         requires ready { IsReady self.old }
         requires none { kept.old.items ≡ [] }
         ensures told { (line : List ℕ) → IsAt self.old line → Finishes result (standing self.old line) (H.files shelf.old) (H.files shelf.new) (O.put sink.old) (O.put sink.new) }
-        ensures publishes { IsErrOf result Stop.Outside → Rose (O.faults sink.old) (O.faults sink.new) ⊎ ((0 < length self.old.line.items) × (request_of self.old.line.items ≡ Some Publish) × (O.put sink.new ≡ O.put sink.old)) }
+        ensures publishes { IsErrOf result Stop.Outside → Rose (O.faults sink.old) (O.faults sink.new) ⊎ ((0 < length self.old.line.items) × (request_of self.old.line.items ≡ Ok Publish) × (O.put sink.new ≡ O.put sink.old)) }
         ensures shelf { H.faults shelf.old ≤ H.faults shelf.new }
         ensures sink { O.faults sink.old ≤ O.faults sink.new }
         ensures cause { IsErrOf result Stop.Outside → Rose (H.faults shelf.old) (H.faults shelf.new) ⊎ Rose (O.faults sink.old) (O.faults sink.new) }

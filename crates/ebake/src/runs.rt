@@ -3,7 +3,7 @@ ghost use Rattle.std.specs.Prelude.{◌≡◌, ◌≢◌, ◌<◌, ◌≤◌, �
 ghost use Rattle.eb_outside.specs.Causes.{Rose};
 ghost use Rattle.ebake.specs.Words.{is_form};
 ghost use Rattle.eb_session.specs.Opening.{opened, OpensAs};
-ghost use Rattle.ebake.specs.Told.{told, ended, IsFaultless, IsWithin, WhereTold};
+ghost use Rattle.ebake.specs.Told.{told, ended, IsFaultless, IsRefused, IsWithin, WhereTold};
 ghost use Rattle.ebake.specs.Progress.{IsFront, Follows, IsSpent};
 ghost use Rattle.ebake.specs.Faults.{HasAnswered, IsAtOpening, IsAtPublication};
 
@@ -55,7 +55,7 @@ fn outcome<H: Shelf, I: Source, O: Sink>(
         (H.files shelf.new) (I.left source.new) (O.put sink.new) }
     ensures status { IfOk result (λ status. (status ≡ 0) ⊎ ((status ≡ 2) ⊎ (status ≡ 3))) }
     ensures words { IfOk result (λ status. status ≡ 2 ↔ (is_form words.now ≡ false)) }
-    ensures refused { IfOk result (λ status. status ≡ 3 → (is_form words.now ≡ true) × IfSome (H.files shelf.old) (λ files. opened files ≡ None)) }
+    ensures refused { IfOk result (λ status. status ≡ 3 → (is_form words.now ≡ true) × IfSome (H.files shelf.old) IsRefused) }
     ensures limit { IsErrOf result Stop.Limit → is_form words.now ≡ true }
     ensures shelf { H.faults shelf.old ≤ H.faults shelf.new }
     ensures source { I.faults source.old ≤ I.faults source.new }
@@ -109,7 +109,7 @@ pub fn run_within<T: Threads + Sync, H: Shelf, I: Source, O: Sink>(
         ⊎ IsAtPublication limits.now.lines limits.now.bytes (H.files shelf.old) (I.left source.old) (O.put sink.old) (O.put sink.new)))) }
     ensures words { result ≡ 2 → is_form words.now ≡ false }
     ensures no_form { is_form words.now ≡ false → (result ≡ 2) ⊎ ((result ≡ 1) ⊎ (result ≡ 4)) }
-    ensures refused { result ≡ 3 → (is_form words.now ≡ true) × IfSome (H.files shelf.old) (λ files. opened files ≡ None) }
+    ensures refused { result ≡ 3 → (is_form words.now ≡ true) × IfSome (H.files shelf.old) IsRefused }
     ensures untouched { (is_form words.now ≡ false) ⊎ (result ≡ 3) → (I.left source.new ≡ I.left source.old) × (I.faults source.new ≡ I.faults source.old) }
     ensures range { result ≤ 5 }
 {
@@ -148,7 +148,7 @@ pub fn run<T: Threads + Sync, H: Shelf, I: Source, O: Sink>(
         ⊎ IsAtPublication (2 ^ 32 - 1) (2 ^ 40) (H.files shelf.old) (I.left source.old) (O.put sink.old) (O.put sink.new)))) }
     ensures words { result ≡ 2 → is_form words.now ≡ false }
     ensures no_form { is_form words.now ≡ false → (result ≡ 2) ⊎ ((result ≡ 1) ⊎ (result ≡ 4)) }
-    ensures refused { result ≡ 3 → (is_form words.now ≡ true) × IfSome (H.files shelf.old) (λ files. opened files ≡ None) }
+    ensures refused { result ≡ 3 → (is_form words.now ≡ true) × IfSome (H.files shelf.old) IsRefused }
     ensures untouched { (is_form words.now ≡ false) ⊎ (result ≡ 3) → (I.left source.new ≡ I.left source.old) × (I.faults source.new ≡ I.faults source.old) }
     ensures range { result ≤ 5 }
 {

@@ -1,5 +1,5 @@
 // The answers to the lines of a source, until it ends or a limit is reached.
-ghost use Rattle.std.specs.Prelude.{◌≡◌, ◌<◌, ◌≤◌, ◌⊎◌, ℕ, [], Some, length, IfOk, IfSome, OnOk, IsErrOf};
+ghost use Rattle.std.specs.Prelude.{◌≡◌, ◌<◌, ◌≤◌, ◌⊎◌, ℕ, [], Some, Ok, length, IfOk, IfSome, OnOk, IsErrOf};
 ghost use Rattle.eb_outside.specs.Causes.{Rose, HasCause};
 ghost use Rattle.eb_outside.specs.Streams.{TakesKnown};
 ghost use Rattle.eb_session.specs.Opening.{opened};
@@ -39,7 +39,7 @@ fn serve<H: Shelf, I: Source, O: Sink>(
 ) -> Result<(), Stop>
     requires ready { IsReady reader.old }
     requires fresh { IsAt reader.old [] }
-    requires opens { IfSome (H.files shelf.old) (λ files. opened files ≡ Some reader.old.session) }
+    requires opens { IfSome (H.files shelf.old) (λ files. opened files ≡ Ok reader.old.session) }
     ensures told { Serves result
         (whole (standing reader.old []) (H.files shelf.old) (I.left source.old) (O.put sink.old))
         (H.files shelf.new) (I.left source.new) (O.put sink.new) }
@@ -78,7 +78,7 @@ pub fn answer_lines<H: Shelf, I: Source, O: Sink>(
 ) -> Result<u8, Stop>
     requires generation { session.generation ≡ 0 }
     requires made { session.made ≡ 0 }
-    requires opens { IfSome (H.files shelf.old) (λ files. opened files ≡ Some session) }
+    requires opens { IfSome (H.files shelf.old) (λ files. opened files ≡ Ok session) }
     ensures told { Follows result
         (whole (first_standing limits.now.lines limits.now.bytes session) (H.files shelf.old) (I.left source.old) (O.put sink.old))
         (H.files shelf.new) (I.left source.new) (O.put sink.new) }

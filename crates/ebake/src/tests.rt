@@ -1,9 +1,9 @@
 // Runs over memory: words, folder and input on one side; status, output and section files on the other.
 use crate::cases::{
-    GREATEST, INPUTS, LIMITS, NO_OBJECTS, ONE_REPLY, OTHER_PROJECTS, OTHER_WORDS, PROJECT, PUBLISH,
-    REFUSED, REPLIES, REQUESTS, THREE_OBJECTS, TWO_LINES, TWO_REPLIES, USAGE, WORLD_REPLIES,
-    WORLD_REQUESTS,
+    GREATEST, INPUTS, LIMITS, NO_OBJECTS, OTHER_PROJECTS, OTHER_SCHEMAS, OTHER_WORDS, PROJECT,
+    PUBLISH, REPLIES, REQUESTS, SCHEMA, THREE_OBJECTS, USAGE,
 };
+use crate::edit_cases::{EDITS, Edits, LEVEL_SCHEMA};
 use crate::limits::Limits;
 use crate::runs::{run, run_within};
 use eb_base::Text;
@@ -16,6 +16,7 @@ use std::thread::Threads;
 #[derive(Clone, Copy)]
 struct Case<'a> {
     words: &'a [&'a str],
+    schema: Option<&'a str>,
     project: Option<&'a str>,
     input: &'a str,
     lines: u32,
@@ -24,10 +25,11 @@ struct Case<'a> {
     output: &'a str,
 }
 
-/// A session on `PROJECT` that must end with status 0.
+/// A session on `SCHEMA` and `PROJECT` that must end with status 0.
 fn session<'a>(input: &'a str, output: &'a str) -> Case<'a> {
     Case {
         words: &["session"],
+        schema: Some(SCHEMA),
         project: Some(PROJECT),
         input,
         lines: u32::MAX,
@@ -59,13 +61,18 @@ fn numbers(alloc: Global, call: Option<u32>) -> Result<Vec<u32>, AllocError> {
     Ok(fails)
 }
 
-fn files_of(alloc: Global, project: Option<&str>) -> Result<Vec<(Text, Vec<u8>)>, AllocError> {
-    let mut files = Vec::new(alloc);
-    if let Some(text) = project {
-        let name = Text::from_vec(Vec::from_slice(alloc, b"project.json")?);
+/// Adds a file to a folder, where there is one.
+fn add_file(
+    alloc: Global,
+    files: &mut Vec<(Text, Vec<u8>)>,
+    name: &str,
+    text: Option<&str>,
+) -> Result<(), AllocError> {
+    if let Some(text) = text {
+        let name = Text::from_vec(Vec::from_slice(alloc, name.as_bytes())?);
         files.push((name, Vec::from_slice(alloc, text.as_bytes())?))?;
     }
-    Ok(files)
+    Ok(())
 }
 
 fn words_of(alloc: Global, words: &[&str]) -> Result<Vec<Text>, AllocError> {
@@ -74,6 +81,19 @@ fn words_of(alloc: Global, words: &[&str]) -> Result<Vec<Text>, AllocError> {
         texts.push(Text::from_vec(Vec::from_slice(alloc, word.as_bytes())?))?;
     }
     Ok(texts)
+}
+
+/// A folder in memory with these files.
+fn folder(
+    alloc: Global,
+    schema: Option<&str>,
+    project: Option<&str>,
+    fails: Option<u32>,
+) -> Result<MemShelf, AllocError> {
+    let mut files = Vec::new(alloc);
+    add_file(alloc, &mut files, "schema.json", schema)?;
+    add_file(alloc, &mut files, "project.json", project)?;
+    Ok(MemShelf::open(alloc, files, numbers(alloc, fails)?))
 }
 
 /// Plays a case, with an input that comes in pieces of 64 bytes.
@@ -89,11 +109,7 @@ fn play<T: Threads + Sync>(
         files: 1,
     };
     let words = words_of(alloc, case.words)?;
-    let mut shelf = MemShelf::open(
-        alloc,
-        files_of(alloc, case.project)?,
-        numbers(alloc, failing.shelf)?,
-    );
+    let mut shelf = folder(alloc, case.schema, case.project, failing.shelf)?;
     let mut source = MemSource::open(
         Vec::from_slice(alloc, case.input.as_bytes())?,
         64,
@@ -137,7 +153,7 @@ fn the_first_path(rt: HostRuntime) -> Result<(), Fail> {
 fn the_program_has_the_greatest_limits(rt: HostRuntime) -> Result<(), Fail> {
     let alloc = rt.alloc();
     let words = words_of(alloc, &["session"])?;
-    let mut shelf = MemShelf::open(alloc, files_of(alloc, Some(PROJECT))?, Vec::new(alloc));
+    let mut shelf = folder(alloc, Some(SCHEMA), Some(PROJECT), None)?;
     let mut source = MemSource::open(
         Vec::from_slice(alloc, PUBLISH.as_bytes())?,
         7,
@@ -175,12 +191,27 @@ fn words_end_well<T: Threads + Sync>(rt: &T, alloc: Global) -> Result<bool, Allo
 
 /// Whether all folders that don't open are refused.
 fn folders_end_well<T: Threads + Sync>(rt: &T, alloc: Global) -> Result<bool, AllocError> {
-    for project in &OTHER_PROJECTS {
+    for (project, output) in &OTHER_PROJECTS {
         let case = Case {
             project: *project,
             status: 3,
-            output: REFUSED,
-            ..session(REQUESTS, REFUSED)
+            ..session(REQUESTS, output)
+        };
+        if !ends_well(rt, alloc, &case)? {
+            return Ok(false);
+        }
+    }
+    Ok(true)
+}
+
+/// Whether all folders whose schema doesn't open are refused, before their project is read.
+fn schemas_end_well<T: Threads + Sync>(rt: &T, alloc: Global) -> Result<bool, AllocError> {
+    for (schema, output) in &OTHER_SCHEMAS {
+        let case = Case {
+            schema: *schema,
+            project: None,
+            status: 3,
+            ..session(REQUESTS, output)
         };
         if !ends_well(rt, alloc, &case)? {
             return Ok(false);
@@ -192,7 +223,8 @@ fn folders_end_well<T: Threads + Sync>(rt: &T, alloc: Global) -> Result<bool, Al
 #[test]
 fn words_and_folders(rt: HostRuntime) -> Result<(), Fail> {
     assert!(rt; words_end_well(&rt, rt.alloc())?, "words");
-    assert!(rt; folders_end_well(&rt, rt.alloc())?, "folders");
+    assert!(rt; folders_end_well(&rt, rt.alloc())?, "projects");
+    assert!(rt; schemas_end_well(&rt, rt.alloc())?, "schemas");
     Ok(())
 }
 
@@ -233,7 +265,7 @@ fn lines(rt: HostRuntime) -> Result<(), Fail> {
         "65,536 bytes"
     );
     assert!(rt;
-        padded_ends_well(&rt, alloc, 65_521, "E2 NotYet\n")?,
+        padded_ends_well(&rt, alloc, 65_521, "E1 LineTooLong\n")?,
         "65,537 bytes"
     );
     let empty = Case {
@@ -333,8 +365,8 @@ fn failing_calls(rt: HostRuntime) -> Result<(), Fail> {
     let alloc = rt.alloc();
     assert_eq!(rt;
         failures(&rt, alloc, shelf_fails)?,
-        Some(2),
-        "one read and one write"
+        Some(3),
+        "two reads and one write"
     );
     assert_eq!(rt;
         failures(&rt, alloc, source_fails)?,
@@ -352,5 +384,65 @@ fn failing_calls(rt: HostRuntime) -> Result<(), Fail> {
         sink.bytes() == b"ok rebaked 1 of 1\nok published 1 changed 1 reloaded 0\n".as_slice(),
         "replies before the failing take"
     );
+    Ok(())
+}
+
+/// A session that edits a level.
+fn editing<'a>(edits: &'a Edits) -> Case<'a> {
+    Case {
+        schema: Some(LEVEL_SCHEMA),
+        project: Some(edits.project),
+        ..session(edits.input, edits.output)
+    }
+}
+
+/// Plays the sessions of edits, and answers the first that ends otherwise.
+fn other_edits<T: Threads + Sync>(
+    rt: &T,
+    alloc: Global,
+) -> Result<Option<&'static str>, AllocError> {
+    for edits in &EDITS {
+        if !ends_well(rt, alloc, &editing(edits))? {
+            return Ok(Some(edits.about));
+        }
+    }
+    Ok(None)
+}
+
+#[test]
+fn edits(rt: HostRuntime) -> Result<(), Fail> {
+    assert_eq!(rt; other_edits(&rt, rt.alloc())?, None);
+    Ok(())
+}
+
+/// The request lines that make a chain of 65 objects, 2 below 1 and so on.
+fn chain(alloc: Global) -> Result<String, AllocError> {
+    let mut lines = String::new(alloc);
+    for object in 2..66 {
+        let parent = object - 1;
+        let line = format!(in alloc;
+            "{{\"do\":\"add_object\",\"object\":{object},\"parent\":{parent},\"scene\":1,\"section\":null}}\n"
+        )?;
+        lines.push_str(line.as_str())?;
+    }
+    Ok(lines)
+}
+
+/// The replies to them: the last object would stand too deep.
+fn chain_replies(alloc: Global) -> Result<String, AllocError> {
+    let mut replies = String::new(alloc);
+    for _ in 2..65 {
+        replies.push_str("ok rebaked 0 of 1\n")?;
+    }
+    replies.push_str("E16 DepthLimit\n")?;
+    Ok(replies)
+}
+
+#[test]
+fn depth(rt: HostRuntime) -> Result<(), Fail> {
+    let alloc = rt.alloc();
+    let lines = chain(alloc)?;
+    let replies = chain_replies(alloc)?;
+    assert!(rt; ends_well(&rt, alloc, &session(lines.as_str(), replies.as_str()))?);
     Ok(())
 }

@@ -1,6 +1,6 @@
 use Rattle.std.proofs.Common.{◌∙◌}
 use Rattle.eb_stream.proofs.SectionFacts.{unloaded_all}
-use Rattle.eb_session.specs.Objects.{the_place}
+use Rattle.eb_session.specs.Images.{the_place}
 use Rattle.eb_session.proofs.sections.take_out.Goals as goal
 
 pub returns-clause-empty : goal.returns-clause-empty

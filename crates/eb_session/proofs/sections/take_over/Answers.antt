@@ -1,6 +1,6 @@
 use Rattle.std.proofs.Common.{◌∙◌}
 use Rattle.eb_stream.proofs.SectionFacts.{unloaded_all}
-use Rattle.eb_session.specs.Objects.{the_place}
+use Rattle.eb_session.specs.Images.{the_place}
 use Rattle.eb_session.proofs.sections.take_over.Goals as goal
 
 pub bring_into_empty-requires-clause-empty : goal.bring_into_empty-requires-clause-empty
