@@ -418,8 +418,8 @@ fn edits(rt: HostRuntime) -> Result<(), Fail> {
 /// The request lines that make a chain of 65 objects, 2 below 1 and so on.
 fn chain(alloc: Global) -> Result<String, AllocError> {
     let mut lines = String::new(alloc);
-    for object in 2..66 {
-        let parent = object - 1;
+    for parent in 1..65 {
+        let object = parent + 1;
         let line = format!(in alloc;
             "{{\"do\":\"add_object\",\"object\":{object},\"parent\":{parent},\"scene\":1,\"section\":null}}\n"
         )?;
