@@ -1,5 +1,5 @@
 // The project: what can be asked of it, and its edits.
-ghost use Rattle.std.specs.Prelude.{◌≡◌, [], is_some, length, option_map, IfOk, OnOk, OnErr};
+ghost use Rattle.std.specs.Prelude.{◌≡◌, [], is_some, option_map, IfOk, OnOk, OnErr};
 ghost use Rattle.std.specs.Option.{option_copied};
 ghost use Rattle.std.specs.Map.{keys_of};
 ghost use Rattle.std.specs.List.Sorted.{IsStrictlySortedBy};
@@ -88,14 +88,6 @@ impl Project {
     {
         let scenes = self.scenes.keys().copied().collect(self.alloc)?;
         Ok(scenes)
-    }
-
-    /// How many scenes there are. Takes no memory. Tells callers that the project is valid, as every project is.
-    pub fn scene_count(&self) -> usize
-        ensures count { result ≡ length self.now.scenes }
-        ensures valid { IsValid self.now }
-    {
-        self.scenes.len()
     }
 
     /// The numbers of the objects of a scene, ascending; none where the scene isn't there. Takes no memory.

@@ -208,7 +208,7 @@ pub fn project_text(alloc: Global, project: &Project) -> Result<Text, Memory>
     ensures text { IfOk result (λ text. text ≡ canonical project.now) }
     ensures reads_back { IfOk result (λ text. option_map (project_of project.now.schema) (document_of text) ≡ Some (Ok project.now)) }
 {
-    project.scene_count(); // tells that the project is valid
+    project.schema(); // tells that the project is valid
     let value = document_value(alloc, project)?;
     let mut text = value.to_string(alloc)?.into_bytes();
     text.push(b'\n')?;

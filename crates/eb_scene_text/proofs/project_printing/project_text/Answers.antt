@@ -20,5 +20,5 @@ pub returns-clause-reads_back : goal.returns-clause-reads_back
 returns-clause-reads_back c =
     let g = c.args.project.now in
     let shallow = subst (λ (d : Data). depth d ≤ max_depth) (sym c.in_ok-value.ensures) (document_shallow g) in
-    text_read g _ c.in_ok-to_string.field-0 c.scene_count.ensures.valid (c.from_vec.ensures ∙ c.in_ok-push.ensures.items ∙ ap (λ t. t ++ 10 ∷ []) (ap (λ v. v.items) c.into_bytes-text.ensures.value)) c.in_ok-to_string.ensures.compact
+    text_read g _ c.in_ok-to_string.field-0 c.schema.ensures.valid (c.from_vec.ensures ∙ c.in_ok-push.ensures.items ∙ ap (λ t. t ++ 10 ∷ []) (ap (λ v. v.items) c.into_bytes-text.ensures.value)) c.in_ok-to_string.ensures.compact
     (c.in_ok-to_string.ensures.reads_back shallow ∙ ap Some c.in_ok-value.ensures)
