@@ -52,7 +52,7 @@ listed g s valid = list_where g s (numbered g.scenes s) valid refl
 no_scene : (g : Content) (test : ℕ → ℕ → Bool) (s : ℕ) → has_number (keys_of g.scenes) s ≡ false → count_at g test s ≡ 0
 no_scene g test s absent = ap (λ r. count (test s) (keys_of (unwrap_or r []))) (none_listed s g.scenes absent)
 
-no_run : (g : Content) (s n : ℕ) → has_number (keys_of (objects_of g s)) n ≡ false → has_run g s n ≡ false
+pub no_run : (g : Content) (s n : ℕ) → has_number (keys_of (objects_of g s)) n ≡ false → has_run g s n ≡ false
 no_run g s n absent = ap (λ r. is_run g.schema (option_map_or (λ o. o.components) r [])) (none_listed n (objects_of g s) absent)
 
 -- the runs of a list of objects

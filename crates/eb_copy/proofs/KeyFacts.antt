@@ -10,8 +10,10 @@ use Rattle.eb_scene.specs.declared.keys.Key.{Key}
 use Rattle.eb_scene.specs.declared.keys.Key.TheVariants.{Comp, Parent, Children, Exists, Asset}
 use Rattle.eb_scene.specs.Numbers.{has_number, with_number}
 use Rattle.eb_scene.specs.Projects.{Content}
+use Rattle.eb_scene.specs.Answers.{same_key, has_key}
+use Rattle.eb_scene.proofs.LookUps.{turned}
 use Rattle.eb_copy.specs.Copying.{is_copied, ascending, copied_kinds, targets_in, reads}
-use Rattle.eb_copy.specs.Rerun.{same_key, has_key, meets}
+use Rattle.eb_copy.specs.Rerun.{meets}
 use Rattle.eb_copy.specs.Walks.{is_read, is_met}
 
 -- ---- tests
@@ -131,26 +133,37 @@ any_read p s n kinds ns =
 none_read : (kinds ns : List ℕ) → (list_any (λ k. false) kinds || list_any (λ m. false) ns) ≡ false
 none_read kinds ns = ap (λ b. b || list_any (λ m. false) ns) (any_none kinds) ∙ any_none ns
 
+comp_turned : (s n kind t m other : ℕ) → same_key (Comp t m other) (Comp s n kind) ≡ ((nat_eq s t && nat_eq n m) && nat_eq kind other)
+comp_turned s n kind t m other =
+    ap (λ b. (b && nat_eq m n) && nat_eq other kind) (turned t s)
+    ∙ ap (λ b. (nat_eq s t && b) && nat_eq other kind) (turned m n)
+    ∙ ap (λ b. (nat_eq s t && nat_eq n m) && b) (turned other kind)
+
+exists_turned : (s n t m : ℕ) → same_key (Exists t m) (Exists s n) ≡ (nat_eq s t && nat_eq n m)
+exists_turned s n t m = ap (λ b. b && nat_eq m n) (turned t s) ∙ ap (λ b. nat_eq s t && b) (turned m n)
+
 pub read_is : (g : Content) (s n : ℕ) (k : Key) → has_key (reads g (s, n)) k ≡ is_read g s n k
 read_is g s n (Comp t m kind) =
     let c : Bool = nat_eq s t && nat_eq n m in
     let kinds : List ℕ = ascending (copied_kinds g.schema) in
     let ns : List ℕ = ascending (targets_in g s n) in
-    any_read (λ j. same_key j (Comp t m kind)) s n kinds ns
-    ∙ ap (λ b. list_any (λ a. c && nat_eq a kind) kinds || b) (any_none ns)
-    ∙ or_false (list_any (λ a. c && nat_eq a kind) kinds)
+    any_read (same_key (Comp t m kind)) s n kinds ns
+    ∙ ap (λ b. list_any (λ a. same_key (Comp t m kind) (Comp s n a)) kinds || b) (any_none ns)
+    ∙ or_false (list_any (λ a. same_key (Comp t m kind) (Comp s n a)) kinds)
+    ∙ any_alike (λ a. same_key (Comp t m kind) (Comp s n a)) (λ a. c && nat_eq a kind) (λ a. comp_turned s n a t m kind) kinds
     ∙ any_guarded c (λ a. nat_eq a kind) kinds
     ∙ ap (λ b. c && b) (has_copied g.schema kind)
 read_is g s n (Exists t m) =
     let kinds : List ℕ = ascending (copied_kinds g.schema) in
     let ns : List ℕ = ascending (targets_in g s n) in
-    any_read (λ j. same_key j (Exists t m)) s n kinds ns
-    ∙ ap (λ b. b || list_any (λ a. nat_eq s t && nat_eq a m) ns) (any_none kinds)
+    any_read (same_key (Exists t m)) s n kinds ns
+    ∙ ap (λ b. b || list_any (λ a. same_key (Exists t m) (Exists s a)) ns) (any_none kinds)
+    ∙ any_alike (λ a. same_key (Exists t m) (Exists s a)) (λ a. nat_eq s t && nat_eq a m) (λ a. exists_turned s a t m) ns
     ∙ any_guarded (nat_eq s t) (λ a. nat_eq a m) ns
     ∙ ap (λ b. nat_eq s t && b) (has_ascending (targets_in g s n) m)
-read_is g s n (Parent t m) = any_read (λ j. same_key j (Parent t m)) s n (ascending (copied_kinds g.schema)) (ascending (targets_in g s n)) ∙ none_read (ascending (copied_kinds g.schema)) (ascending (targets_in g s n))
-read_is g s n (Children t m) = any_read (λ j. same_key j (Children t m)) s n (ascending (copied_kinds g.schema)) (ascending (targets_in g s n)) ∙ none_read (ascending (copied_kinds g.schema)) (ascending (targets_in g s n))
-read_is g s n (Asset m) = any_read (λ j. same_key j (Asset m)) s n (ascending (copied_kinds g.schema)) (ascending (targets_in g s n)) ∙ none_read (ascending (copied_kinds g.schema)) (ascending (targets_in g s n))
+read_is g s n (Parent t m) = any_read (same_key (Parent t m)) s n (ascending (copied_kinds g.schema)) (ascending (targets_in g s n)) ∙ none_read (ascending (copied_kinds g.schema)) (ascending (targets_in g s n))
+read_is g s n (Children t m) = any_read (same_key (Children t m)) s n (ascending (copied_kinds g.schema)) (ascending (targets_in g s n)) ∙ none_read (ascending (copied_kinds g.schema)) (ascending (targets_in g s n))
+read_is g s n (Asset m) = any_read (same_key (Asset m)) s n (ascending (copied_kinds g.schema)) (ascending (targets_in g s n)) ∙ none_read (ascending (copied_kinds g.schema)) (ascending (targets_in g s n))
 
 pub met_is : (g : Content) (keys : List Key) (s n : ℕ) → meets (reads g (s, n)) keys ≡ is_met g keys s n
 met_is g keys s n = any_alike (has_key (reads g (s, n))) (is_read g s n) (read_is g s n) keys

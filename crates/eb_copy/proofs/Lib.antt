@@ -1,5 +1,7 @@
 pub mod TotalFacts
 pub mod KeyFacts
+pub mod RunSetFacts
+pub mod ReferrerFacts
 pub mod Lookups
 pub mod PartChanges
 pub mod Outcomes
@@ -7,3 +9,10 @@ pub mod EditFacts
 pub mod RerunFacts
 pub mod ReachFacts
 pub mod ChangeFacts
+pub mod GoneKeys
+pub mod SubtreeFacts
+pub mod GoneFacts
+pub mod TargetFacts
+pub mod CoverFacts
+pub mod AskedFacts
+pub mod ByKeyFacts

@@ -135,7 +135,7 @@ parts_changed f es n m same = parts_set f es n m (numbered es n) refl same
 keys_scene : (g : Content) (s : ℕ) (es fs : Objects) → numbered g.scenes s ≡ Some es → keys_of (with_scene g s fs).scenes ≡ keys_of g.scenes
 keys_scene g s es fs there = sym (ap (λ r. keys_of (set_found (λ x. fs) g.scenes s r)) there) ∙ keys_changed (λ x. fs) g.scenes s
 
-objects_there : (g : Content) (s : ℕ) (es fs : Objects) → numbered g.scenes s ≡ Some es → objects_of (with_scene g s fs) s ≡ fs
+pub objects_there : (g : Content) (s : ℕ) (es fs : Objects) → numbered g.scenes s ≡ Some es → objects_of (with_scene g s fs) s ≡ fs
 objects_there g s es fs there =
     ap (λ r. unwrap_or r []) (lookup_set s s fs es g.scenes there) ∙ ap (λ b. unwrap_or (cond b (Some fs) (numbered g.scenes s)) []) (itself s)
 

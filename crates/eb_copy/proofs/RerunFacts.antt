@@ -30,7 +30,7 @@ use Rattle.eb_copy.proofs.EditFacts.{Settled, edit_settled}
 run_same : (types : Types) (old new : List Part) → kept types new ≡ kept types old → is_run types new ≡ is_run types old
 run_same types old new same = sym (run_kept types new) ∙ ap (is_run types) same ∙ run_kept types old
 
-targets_same : (types : Types) (old new : List Part) → kept types new ≡ kept types old → flat_map (part_targets types) new ≡ flat_map (part_targets types) old
+pub targets_same : (types : Types) (old new : List Part) → kept types new ≡ kept types old → flat_map (part_targets types) new ≡ flat_map (part_targets types) old
 targets_same types old new same = sym (targets_kept types new) ∙ ap (flat_map (part_targets types)) same ∙ targets_kept types old
 
 read_same : (g h : Content) (s n : ℕ) → h.schema ≡ g.schema → targets_in h s n ≡ targets_in g s n → (k : Key) → is_read g s n k ≡ is_read h s n k

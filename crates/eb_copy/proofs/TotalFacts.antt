@@ -53,7 +53,7 @@ total_same_but v w k (n ∷ ns) absent same =
     let parts = either (nat_eq n k) (has_number ns k) absent in
     ap (λ x. x + total v ns) (same n parts.0) ∙ ap (λ x. w n + x) (total_same_but v w k ns parts.1 same)
 
-below_apart : (k : ℕ) (ns : List ℕ) → IsBelow k ns → has_number ns k ≡ false
+pub below_apart : (k : ℕ) (ns : List ℕ) → IsBelow k ns → has_number ns k ≡ false
 below_apart k [] h = refl
 below_apart k (n ∷ ns) h = let less = h.0 in let apart : nat_eq n k ≡ false = grind (arith, nat_tests) in ap (λ b. b || has_number ns k) apart ∙ below_apart k ns h.1
 

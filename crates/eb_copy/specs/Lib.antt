@@ -1,3 +1,5 @@
 pub mod Copying
 pub mod Rerun
 pub mod Walks
+pub mod Gone
+pub mod Referrers

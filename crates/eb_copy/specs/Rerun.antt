@@ -1,29 +1,18 @@
 -- Which runs an edit makes anew, and what the copy baker answers to it.
-use Rattle.std.specs.Prelude.{◌≡◌, ℕ, Bool, false, ◌==◌, ◌&&◌, ◌||◌, not, List, length, filter, Result, Ok, Err}
+use Rattle.std.specs.Prelude.{◌≡◌, ℕ, Bool, ◌||◌, not, List, length, filter, Result, Ok, Err}
 use Rattle.std.specs.List.{list_any}
 use Rattle.eb_scene.specs.declared.keys.Key.{Key}
-use Rattle.eb_scene.specs.declared.keys.Key.TheVariants.{Comp, Parent, Children, Exists, Asset}
 use Rattle.eb_scene.specs.declared.edits.Edit.{Edit}
 use Rattle.eb_scene.specs.declared.edits.EditFault.{EditFault}
 use Rattle.eb_scene.specs.declared.edits.EditFault.TheVariants as fault
 use Rattle.eb_scene.specs.Projects.{Content}
 use Rattle.eb_scene.specs.Edits.{edited}
 use Rattle.eb_scene.specs.Touched.{touched}
+use Rattle.eb_scene.specs.Answers.{has_key}
 use Rattle.eb_copy.specs.declared.bakers.Rebaked.{Rebaked}
 use Rattle.eb_copy.specs.Copying.{has_run, runs, reads}
 
 -- ---- keys
-
-abbrev pub same_key : Key → Key → Bool
-same_key (Comp s n kind) (Comp t m other) = (s == t) && (n == m) && (kind == other)
-same_key (Parent s n) (Parent t m) = (s == t) && (n == m)
-same_key (Children s n) (Children t m) = (s == t) && (n == m)
-same_key (Exists s n) (Exists t m) = (s == t) && (n == m)
-same_key (Asset n) (Asset m) = n == m
-same_key k j = false
-
-abbrev pub has_key : List Key → Key → Bool
-has_key keys k = list_any (λ j. same_key j k) keys
 
 -- whether two lists have a key in common
 abbrev pub meets : List Key → List Key → Bool

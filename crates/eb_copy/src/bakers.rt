@@ -3,12 +3,17 @@ ghost use Rattle.std.specs.Prelude.{◌≡◌, ◌+◌, ◌≤◌, IfOk, OnErr, 
 ghost use Rattle.eb_scene.specs.Validity.{IsEdit};
 ghost use Rattle.eb_copy.specs.Copying.{runs, row_in};
 ghost use Rattle.eb_copy.specs.Rerun.{Rebakes};
+ghost use Rattle.eb_copy.specs.Walks.{scene_of};
+ghost use Rattle.eb_copy.specs.Gone.{IsByKeys, runs_gone};
 
 use crate::copies::copied_row;
+use crate::gone::runs_gone;
+use crate::rebaking::{hits, renew};
+use crate::referrers::Referrers;
 use crate::walks::{counts_within, reach_of, run_count};
 use eb_base::Memory;
-use eb_scene::{Edit, EditFault, Project};
-use eb_schema::Row;
+use eb_scene::{Edit, EditFault, Key, Project};
+use eb_schema::{Row, Schema};
 use std::alloc::Global;
 use std::marker::Model;
 
@@ -29,19 +34,20 @@ pub struct Rebaked {
 pub struct CopyBaker {
     project: Project,
     count: u32,
+    /// Given up where memory was short: then scenes are walked instead.
+    referrers: Option<Referrers>,
     alloc: Global,
 }
 
 impl Model for CopyBaker {
-    ghost use Rattle.std.specs.Prelude.{◌≡◌, length};
     ghost use Rattle.eb_scene.specs.Projects.{Content};
-    ghost use Rattle.eb_copy.specs.Copying.{runs};
+    ghost use Rattle.eb_copy.specs.Referrers.{IsKeptBeside};
 
     ghost Value = { Content };
 
     ghost view = { λ b. b.project };
 
-    ghost invariant = { λ b. b.count ≡ length (runs b.project) };
+    ghost invariant = { λ b. IsKeptBeside b.project b.count b.referrers };
 }
 
 /// A count without some of it, and with others.
@@ -54,15 +60,25 @@ fn exchanged(count: u32, fewer: usize, more: usize) -> u32
     count - fewer as u32 + more as u32
 }
 
+/// A count without the runs that go with the objects whose keys these are.
+fn left(count: u32, schema: &Schema, keys: &[Key]) -> u32
+    requires { runs_gone schema.now keys.now ≤ count }
+    ensures { result + runs_gone schema.now keys.now ≡ count }
+{
+    count - runs_gone(schema, keys) as u32
+}
+
 impl CopyBaker {
     /// The copy baker over this project.
     pub fn open(alloc: Global, project: Project) -> Result<Self, Memory>
         ensures { IfOk result (λ baker. baker ≡ project) }
     {
         let count = run_count(&project)?;
+        let referrers = Referrers::of(alloc, &project)?;
         Ok(CopyBaker {
             project,
             count,
+            referrers: Some(referrers),
             alloc,
         })
     }
@@ -100,15 +116,51 @@ impl CopyBaker {
         if self.count > MOST_RUNS {
             return Err(EditFault::Memory);
         }
-        self.project.scene_count();
+        match edit {
+            Edit::AddObject { scene, .. } | Edit::RemoveObject { scene, .. } => {
+                self.edit_by_keys(edit, *scene)
+            }
+            _ => self.edit_within(edit),
+        }
+    }
+
+    /// Does an edit, and counts the runs within its reach before and after it.
+    fn edit_within(&mut self, edit: &Edit) -> Result<Rebaked, EditFault>
+        requires fits { IsEdit edit.now }
+        requires few { length (runs self.old) ≤ MOST_RUNS }
+        ensures rebaked { Rebakes result self.old self.new edit.now }
+        ensures kept { OnErr result (self.new ≡ self.old) }
+    {
+        self.project.schema();
         let reach = reach_of(edit);
         let before = counts_within(&self.project, &reach, &[]);
         let keys = self.project.edit(edit)?;
-        self.project.scene_count();
+        self.project.schema();
         let after = counts_within(&self.project, &reach, &keys);
         self.count = exchanged(self.count, before.runs, after.runs);
+        renew(&mut self.referrers, &self.project, &reach);
         Ok(Rebaked {
             rerun: after.hits as u32,
+            runs: self.count,
+        })
+    }
+
+    /// Does an edit that brings an object of this scene or takes objects out of it: its keys tell which runs go, and the
+    /// lists which ones refer to what comes or goes.
+    fn edit_by_keys(&mut self, edit: &Edit, scene: u8) -> Result<Rebaked, EditFault>
+        requires fits { IsEdit edit.now }
+        requires by_keys { IsByKeys edit.now }
+        requires scene { scene ≡ scene_of edit.now }
+        ensures rebaked { Rebakes result self.old self.new edit.now }
+        ensures kept { OnErr result (self.new ≡ self.old) }
+    {
+        self.project.schema();
+        let keys = self.project.edit(edit)?;
+        let touched = keys.as_slice();
+        self.count = left(self.count, self.project.schema(), touched);
+        let rerun = hits(&mut self.referrers, &self.project, scene, touched);
+        Ok(Rebaked {
+            rerun: rerun as u32,
             runs: self.count,
         })
     }

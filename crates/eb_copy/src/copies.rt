@@ -29,7 +29,7 @@ pub fn is_copied(schema: &Schema, kind: AuthorNo) -> bool
 }
 
 /// The components of an object, none where it isn't there.
-fn parts(project: &Project, scene: u8, object: u32) -> &[Part]
+pub fn parts(project: &Project, scene: u8, object: u32) -> &[Part]
     ensures { result.now ≡ parts_in project.now scene object }
 {
     match project.object(scene, object) {

@@ -4,6 +4,10 @@
 
 mod bakers;
 mod copies;
+mod gone;
+mod rebaking;
+mod referrers;
+mod run_sets;
 mod walks;
 
 pub use bakers::{CopyBaker, Rebaked};

@@ -8,9 +8,9 @@ use eb_schema::{Cell, Schema, Val};
 use serde_json::Value;
 use std::alloc::Global;
 
-/// Types `Value` and `Link`, which are copied, and `Note`, which isn't.
+/// Types `Value`, `Link` and `Tie`, which are copied, and `Note`, which isn't.
 const TYPES: &str =
-    r#"{"assets":[],"authoring":[{"copy":"Value","fields":[["v","i64"]],"name":"Value","number":1},{"copy":"Link","fields":[["to","ref"]],"name":"Link","number":2},{"copy":null,"fields":[["n","i64"]],"name":"Note","number":3}],"components":[{"fields":[["v","i64"]],"mode":"stored","name":"Value","number":1},{"fields":[["to","ref"]],"mode":"stored","name":"Link","number":2}]}"#;
+    r#"{"assets":[],"authoring":[{"copy":"Value","fields":[["v","i64"]],"name":"Value","number":1},{"copy":"Link","fields":[["to","ref"]],"name":"Link","number":2},{"copy":null,"fields":[["n","i64"]],"name":"Note","number":3},{"copy":"Tie","fields":[["to","ref"]],"name":"Tie","number":4}],"components":[{"fields":[["v","i64"]],"mode":"stored","name":"Value","number":1},{"fields":[["to","ref"]],"mode":"stored","name":"Link","number":2},{"fields":[["to","ref"]],"mode":"stored","name":"Tie","number":3}]}"#;
 
 /// Reruns and runs of an answer, none of a refusal.
 fn told(answer: Result<Rebaked, EditFault>) -> Option<(u32, u32)> {
@@ -34,16 +34,23 @@ fn started(alloc: Global) -> Option<CopyBaker> {
     Some(baker)
 }
 
-/// Makes an object.
-fn add(baker: &mut CopyBaker, object: u32) -> Option<(u32, u32)>
+/// Makes an object below another one, or below none.
+fn add_below(baker: &mut CopyBaker, object: u32, parent: Option<u32>) -> Option<(u32, u32)>
     requires { IsNumber object }
 {
     told(baker.edit(&Edit::AddObject {
         scene: 1,
         object,
-        parent: None,
+        parent,
         section: None,
     }))
+}
+
+/// Makes an object.
+fn add(baker: &mut CopyBaker, object: u32) -> Option<(u32, u32)>
+    requires { IsNumber object }
+{
+    add_below(baker, object, None)
 }
 
 /// Takes an object away.
@@ -128,6 +135,46 @@ fn noted(baker: &mut CopyBaker, alloc: Global) -> [Option<(u32, u32)>; 3] {
     [given, noted, ended]
 }
 
+/// A reference that leads elsewhere before the objects come.
+fn turned(baker: &mut CopyBaker, alloc: Global) -> [Option<(u32, u32)>; 3] {
+    add(baker, 1);
+    put(baker, alloc, 1, b"Link", b"to", 2);
+    put(baker, alloc, 1, b"Link", b"to", 3);
+    let left = add(baker, 2);
+    let added = add(baker, 3);
+    let removed = remove(baker, 3);
+    [left, added, removed]
+}
+
+/// Two references to objects that go together.
+fn tied(baker: &mut CopyBaker, alloc: Global) -> [Option<(u32, u32)>; 3] {
+    add(baker, 1);
+    put(baker, alloc, 1, b"Link", b"to", 2);
+    let given = put(baker, alloc, 1, b"Tie", b"to", 3);
+    add(baker, 2);
+    let added = add_below(baker, 3, Some(2));
+    let removed = remove(baker, 2);
+    [given, added, removed]
+}
+
+/// The end of the scene, and its beginning.
+fn begun_again(baker: &mut CopyBaker) -> Option<(u32, u32)> {
+    told(baker.edit(&Edit::RemoveScene { scene: 1 }));
+    told(baker.edit(&Edit::AddScene { scene: 1 }))
+}
+
+/// A reference in a scene that ends and begins again.
+fn renewed(baker: &mut CopyBaker, alloc: Global) -> [Option<(u32, u32)>; 3] {
+    add(baker, 1);
+    put(baker, alloc, 1, b"Link", b"to", 2);
+    begun_again(baker);
+    let added = add(baker, 2);
+    add(baker, 1);
+    let given = put(baker, alloc, 1, b"Link", b"to", 2);
+    let removed = remove(baker, 2);
+    [added, given, removed]
+}
+
 #[test]
 fn an_object_comes_and_goes(rt: HostRuntime) {
     let mut baker = started(rt.alloc()).expect(&rt, "memory");
@@ -147,6 +194,27 @@ fn nothing_else_reruns(rt: HostRuntime) {
     let mut baker = started(rt.alloc()).expect(&rt, "memory");
     let told = noted(&mut baker, rt.alloc());
     assert_eq!(rt; told, [Some((1, 1)), Some((0, 1)), Some((0, 0))]);
+}
+
+#[test]
+fn a_reference_that_turned_away_is_read_no_more(rt: HostRuntime) {
+    let mut baker = started(rt.alloc()).expect(&rt, "memory");
+    let told = turned(&mut baker, rt.alloc());
+    assert_eq!(rt; told, [Some((0, 1)), Some((1, 1)), Some((1, 1))]);
+}
+
+#[test]
+fn a_run_that_reads_two_objects_that_go_is_made_anew_once(rt: HostRuntime) {
+    let mut baker = started(rt.alloc()).expect(&rt, "memory");
+    let told = tied(&mut baker, rt.alloc());
+    assert_eq!(rt; told, [Some((1, 1)), Some((1, 1)), Some((1, 1))]);
+}
+
+#[test]
+fn a_scene_that_begins_again_has_no_runs_of_before(rt: HostRuntime) {
+    let mut baker = started(rt.alloc()).expect(&rt, "memory");
+    let told = renewed(&mut baker, rt.alloc());
+    assert_eq!(rt; told, [Some((0, 0)), Some((1, 1)), Some((1, 1))]);
 }
 
 #[test]

@@ -108,7 +108,7 @@ fn object_counts(project: &Project, scene: u8, object: u32, keys: &[Key]) -> Cou
 }
 
 /// The runs of a scene. Takes no memory, and time by its objects.
-fn scene_counts(project: &Project, scene: u8, keys: &[Key]) -> Counts
+pub fn scene_counts(project: &Project, scene: u8, keys: &[Key]) -> Counts
     ensures hits { result.hits ≡ count_at project.now (is_hit project.now keys.now) scene }
     ensures runs { result.runs ≡ count_at project.now (has_run project.now) scene }
 {
