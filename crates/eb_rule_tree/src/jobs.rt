@@ -9,6 +9,7 @@ use crate::sights::Sight;
 use crate::steps::values;
 use crate::terms::term;
 use eb_base::{Memory, Text};
+use eb_rule_names::VisibleNames;
 use eb_rule_text::{Command, Init, JobTree, Target};
 use eb_schema::Schema;
 use sqlite_items::Items;
@@ -62,13 +63,13 @@ fn order(alloc: Global, sight: &Sight<'_, '_>, command: &Command) -> Result<Orde
 }
 
 // A created name is visible in the commands behind it.
-fn show(alloc: Global, command: &Command, known: &mut eb_base::Items<Text>) -> Result<(), Memory>
+fn show(alloc: Global, command: &Command, known: &mut VisibleNames<Text>) -> Result<(), Memory>
     ensures { OnOk result (known.new ≡ spec.behind command.now known.old) }
 {
     match command {
         Command::Create(name) => {
             let name = name.copy(alloc)?;
-            known.push(name)?;
+            known.push(alloc, name)?;
             Ok(())
         }
         Command::Destroy(_) => Ok(()),
@@ -78,7 +79,7 @@ fn show(alloc: Global, command: &Command, known: &mut eb_base::Items<Text>) -> R
     }
 }
 
-fn sight_of<'g, 'k>(schema: &'g Schema, known: &'k [Text]) -> Sight<'g, 'k>
+fn sight_of<'g, 'k>(schema: &'g Schema, known: &'k VisibleNames<Text>) -> Sight<'g, 'k>
     ensures { result ≡ spec.job_sight schema.now known.now }
 {
     Sight {
@@ -91,10 +92,10 @@ fn sight_of<'g, 'k>(schema: &'g Schema, known: &'k [Text]) -> Sight<'g, 'k>
 fn orders(alloc: Global, schema: &Schema, commands: &[Command]) -> Result<Items<Order>, Memory>
     ensures { IfOk result (λ t. t ≡ spec.orders_from schema.now commands.now [] []) }
 {
-    let mut known = eb_base::Items::new(alloc);
+    let mut known = VisibleNames::new(alloc);
     let mut done = Items::new(alloc);
     for command in commands {
-        let one = order(alloc, &sight_of(schema, known.items()), command)?;
+        let one = order(alloc, &sight_of(schema, &known), command)?;
         done.push(one)?;
         show(alloc, command, &mut known)?;
     }
@@ -106,7 +107,8 @@ pub fn plan_job(alloc: Global, schema: &Schema, tree: &JobTree) -> Result<JobPla
     ensures { IfOk result (λ t. t ≡ spec.job_plan schema.now tree.now) }
 {
     let query = query_plan(alloc, schema, &tree.query)?;
-    let key = term(alloc, &sight_of(schema, &[]), &tree.key)?;
+    let known = VisibleNames::new(alloc);
+    let key = term(alloc, &sight_of(schema, &known), &tree.key)?;
     let orders = orders(alloc, schema, tree.commands.as_slice())?;
     Ok(JobPlan { query, key, orders })
 }

@@ -5,6 +5,7 @@ ghost use Rattle.eb_rule_tree.specs.Lookups as spec;
 
 use crate::plans::{AuthoredField, ComponentField};
 use eb_base::{AuthorNo, Text, TypeNo};
+use eb_rule_names::VisibleNames;
 use eb_rule_text::FieldPath;
 use eb_schema::{Field, Schema};
 
@@ -21,15 +22,10 @@ pub fn field_place(name: &[u8], fields: &[Field]) -> usize
 }
 
 /// How many visible names stand before the first one that is this.
-pub fn name_place(name: &[u8], known: &[Text]) -> usize
+pub fn name_place(name: &[u8], known: &VisibleNames<Text>) -> usize
     ensures { result ≡ spec.name_place name.now known.now }
 {
-    for at in 0..known.len() {
-        if name == known[at].bytes() {
-            return at;
-        }
-    }
-    known.len()
+    known.place(name)
 }
 
 /// The number of an authoring type.

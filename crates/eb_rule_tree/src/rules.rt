@@ -7,6 +7,7 @@ use crate::plans::{BakerPlan, QueryPlan, RulePlan, RulesPlan, Step, SystemPlan};
 use crate::sights::Have;
 use crate::steps::block;
 use eb_base::{Memory, Text, TypeNo};
+use eb_rule_names::VisibleNames;
 use eb_rule_text::{Baker, Query, Rule, RulesTree, Stmt, System};
 use eb_schema::{Field, Schema};
 use sqlite_items::Items;
@@ -53,7 +54,7 @@ fn body(
     ensures { IfOk result (λ t. t ≡ spec.body schema.now own.now stmts.now) }
 {
     let mut have = Have {
-        known: eb_base::Items::new(alloc),
+        known: VisibleNames::new(alloc),
         extras: 0,
     };
     let made = block(alloc, schema, own, &mut have, stmts)?;

@@ -1,5 +1,6 @@
 // What can be seen where an expression stands.
-use eb_base::{Items, Text};
+use eb_base::Text;
+use eb_rule_names::VisibleNames;
 use eb_schema::{Field, Schema};
 use std::marker::Model;
 
@@ -10,7 +11,7 @@ pub struct Sight<'g, 'k> {
     /// The fields of the baker's own authoring type; none in systems and jobs.
     pub own: &'g [Field],
     /// The visible names, each different.
-    pub known: &'k [Text],
+    pub known: &'k VisibleNames<Text>,
 }
 
 impl<'g, 'k> Model for Sight<'g, 'k> {
@@ -22,10 +23,10 @@ impl<'g, 'k> Model for Sight<'g, 'k> {
 }
 
 /// What a walk over statements has come to.
-#[derive(Debug, Drop)]
+#[derive(Drop)]
 pub struct Have {
     /// The visible names.
-    pub known: Items<Text>,
+    pub known: VisibleNames<Text>,
     /// How many extras there were.
     pub extras: usize,
 }

@@ -51,7 +51,7 @@ fn sight_of<'g, 'k>(schema: &'g Schema, own: &'g [Field], have: &'k Have) -> Sig
     Sight {
         schema,
         own,
-        known: have.known.items(),
+        known: &have.known,
     }
 }
 
@@ -60,7 +60,7 @@ fn show(alloc: Global, have: &mut Have, name: &Text) -> Result<(), Memory>
     ensures { OnOk result (have.new ≡ spec.with_name have.old name.now) }
 {
     let name = name.copy(alloc)?;
-    have.known.push(name)?;
+    have.known.push(alloc, name)?;
     Ok(())
 }
 

@@ -5,3 +5,8 @@ mod TypedStmts
 mod TypedTexts
 mod TypedJobs
 mod Accepted
+mod LongestTokens
+mod ResolvedReads
+mod ResolvedExprs
+mod ResolvedSteps
+mod ResolvedTexts

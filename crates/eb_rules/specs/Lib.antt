@@ -8,3 +8,5 @@ pub mod Jobs
 pub mod WellTyped
 pub mod Kept
 pub mod Says
+pub mod OneToken
+pub mod Resolved

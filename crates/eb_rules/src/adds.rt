@@ -9,13 +9,14 @@ use crate::inits::inits_typed;
 use crate::scopes::{Scope, Visible};
 use crate::walking::{Ground, WalkError};
 use eb_base::{Items, Memory, TypeNo};
+use eb_rule_names::VisibleNames;
 use eb_rule_text::Add;
 
 // How many types an entity may have.
 const MOST_TYPES: usize = 32;
 
 /// Where an expression stands on this walk.
-pub fn scope_of<'g, 'k>(ground: &Ground<'g>, known: &'k [Visible]) -> Scope<'g, 'k>
+pub fn scope_of<'g, 'k>(ground: &Ground<'g>, known: &'k VisibleNames<Visible>) -> Scope<'g, 'k>
     ensures { result ≡ spec.scope_of ground.now known.now }
 {
     Scope {
@@ -66,7 +67,7 @@ fn add_kind(
 
 fn add_values<'p>(
     ground: &Ground<'_>,
-    known: &[Visible],
+    known: &VisibleNames<Visible>,
     kind: TypeNo,
     add: &Add,
     places: &'p [usize],
@@ -86,7 +87,7 @@ fn add_values<'p>(
 /// An addition to an entity that has been given these types, which are then one more.
 pub fn add_typed<'p>(
     ground: &Ground<'_>,
-    known: &[Visible],
+    known: &VisibleNames<Visible>,
     types: &mut Items<TypeNo>,
     add: &Add,
     places: &'p [usize],
@@ -102,7 +103,7 @@ pub fn add_typed<'p>(
 /// The additions of an extra.
 pub fn adds_typed<'p>(
     ground: &Ground<'_>,
-    known: &[Visible],
+    known: &VisibleNames<Visible>,
     adds: &[Add],
     types: &mut Items<TypeNo>,
     places: &'p [usize],

@@ -11,7 +11,8 @@ use crate::finds::is_ref;
 use crate::inits::inits_typed;
 use crate::scopes::{Bound, Scope, Visible};
 use crate::walking::WalkError;
-use eb_base::{Items, Memory, Text, TypeNo};
+use eb_base::{Memory, Text, TypeNo};
+use eb_rule_names::VisibleNames;
 use eb_rule_text::{Command, Init, Target};
 use eb_schema::Schema;
 use std::alloc::Global;
@@ -111,7 +112,7 @@ fn command_typed<'p>(
 pub fn job_scope<'g, 'k>(
     schema: &'g Schema,
     all: &'g [TypeNo],
-    known: &'k [Visible],
+    known: &'k VisibleNames<Visible>,
 ) -> Scope<'g, 'k>
     ensures { result ≡ spec.job_scope schema.now all.now known.now }
 {
@@ -139,16 +140,19 @@ fn roomy_command<'p>(
 }
 
 // A created name is visible in the commands behind it.
-fn note(alloc: Global, command: &Command, known: &mut Items<Visible>) -> Result<(), Memory>
+fn note(alloc: Global, command: &Command, known: &mut VisibleNames<Visible>) -> Result<(), Memory>
     ensures { OnOk result (known.new ≡ spec.behind_command command.now known.old) }
 {
     match command {
         Command::Create(name) => {
             let name = name.copy(alloc)?;
-            known.push(Visible {
-                name,
-                bound: Bound::Entity,
-            })?;
+            known.push(
+                alloc,
+                Visible {
+                    name,
+                    bound: Bound::Entity,
+                },
+            )?;
             Ok(())
         }
         Command::Destroy(_) => Ok(()),
@@ -168,10 +172,10 @@ pub fn commands_typed<'p>(
 ) -> Result<&'p [usize], WalkError>
     ensures { MatchResult result (λ q. spec.commands_typed schema.now all.now commands.now 0 [] places.now ≡ Ok q.now) (λ e. Stops (spec.commands_typed schema.now all.now commands.now 0 [] places.now) e) }
 {
-    let mut known = Items::new(alloc);
+    let mut known = VisibleNames::new(alloc);
     let mut rest = places;
     for at in 0..commands.len() {
-        let scope = job_scope(schema, all, known.items());
+        let scope = job_scope(schema, all, &known);
         rest = roomy_command(at >= MOST_COMMANDS, &scope, &commands[at], rest)?;
         note(alloc, &commands[at], &mut known)?;
     }

@@ -7,6 +7,7 @@ ghost use Rattle.eb_rules.specs.Typing as spec;
 use crate::faults::{Refusal, RuleKind};
 use crate::scopes::{Bound, Scope, Visible};
 use eb_base::{Text, TypeNo};
+use eb_rule_names::VisibleNames;
 use eb_rule_text::FieldPath;
 use eb_schema::{Field, Kind, Schema};
 
@@ -63,15 +64,13 @@ pub fn known_kind(name: &Text, fields: &[Field], places: &[usize]) -> Result<Kin
 }
 
 /// What a visible name stands for.
-pub fn find_bound(name: &[u8], known: &[Visible]) -> Option<Bound>
+pub fn find_bound(name: &[u8], known: &VisibleNames<Visible>) -> Option<Bound>
     ensures { result ≡ scopes.bound_of name.now known.now }
 {
-    for visible in known {
-        if name == visible.name.bytes() {
-            return Some(visible.bound);
-        }
+    match known.find(name) {
+        Some(visible) => Some(visible.bound),
+        None => None,
     }
-    None
 }
 
 /// Whether the query asks for the type.

@@ -15,6 +15,7 @@ use crate::shapes::{Shape, same_shape};
 use crate::typing::typed;
 use crate::walking::WalkError;
 use eb_base::TypeNo;
+use eb_rule_names::VisibleNames;
 use eb_rule_text::{Expr, JobTree, read_job};
 use eb_rule_tree::{JobPlan, plan_job};
 use eb_schema::Schema;
@@ -30,6 +31,7 @@ pub struct Job {
 
 // The key, which is a whole number.
 fn key_typed<'p>(
+    alloc: Global,
     schema: &Schema,
     all: &[TypeNo],
     key: &Expr,
@@ -37,7 +39,8 @@ fn key_typed<'p>(
 ) -> Result<&'p [usize], Refusal>
     ensures { MatchResult result (λ q. fitted (Some Shape.Int) (typing.typed (spec.job_scope schema.now all.now []) key.now places.now) places.now ≡ Ok q.now) (λ x. fitted (Some Shape.Int) (typing.typed (spec.job_scope schema.now all.now []) key.now places.now) places.now ≡ Err x) }
 {
-    let (shape, rest) = typed(&job_scope(schema, all, &[]), key, places)?;
+    let known = VisibleNames::new(alloc);
+    let (shape, rest) = typed(&job_scope(schema, all, &known), key, places)?;
     if same_shape(Shape::Int, shape) {
         Ok(rest)
     } else {
@@ -55,7 +58,7 @@ fn job_typed(
     ensures { MatchResult result (λ q. spec.job_typed schema.now tree.now places.now ≡ Ok (spec.job_made tree.now q)) (λ e. Stops (spec.job_typed schema.now tree.now places.now) e) }
 {
     let (query, rest) = query_typed(alloc, schema, &tree.query, past(places, 1))?;
-    let rest = key_typed(schema, query.all.items(), &tree.key, past(rest, 1))?;
+    let rest = key_typed(alloc, schema, query.all.items(), &tree.key, past(rest, 1))?;
     commands_typed(
         alloc,
         schema,

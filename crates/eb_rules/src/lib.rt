@@ -8,12 +8,14 @@ mod fields;
 mod finds;
 mod inits;
 pub mod jobs;
+pub mod plan_laws;
 pub mod queries;
 mod reads;
 pub mod rules;
 pub mod scopes;
 mod shapes;
 pub mod statements;
+pub mod token_laws;
 pub mod typing;
 pub mod walking;
 
@@ -27,5 +29,11 @@ pub use statements::{inside, walk};
 pub use typing::typed;
 pub use walking::{Ground, State, WalkError};
 
+#[cfg(test)]
+mod grammar_tests;
+#[cfg(test)]
+mod plan_tests;
+#[cfg(test)]
+mod plan_texts;
 #[cfg(test)]
 mod tests;

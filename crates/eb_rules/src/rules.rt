@@ -16,6 +16,7 @@ use crate::queries::query_typed;
 use crate::statements::inside;
 use crate::walking::{Ground, State, WalkError};
 use eb_base::{Items, Memory, Text};
+use eb_rule_names::VisibleNames;
 use eb_rule_text::{Baker, Rule, RulesTree, System, TextError, print_rules, read_rules};
 use eb_rule_tree::{RulesPlan, plan_rules};
 use eb_schema::Schema;
@@ -75,7 +76,7 @@ fn first_state(alloc: Global) -> State
     ensures { result ≡ spec.first_state }
 {
     State {
-        known: Items::new(alloc),
+        known: VisibleNames::new(alloc),
         types: Items::new(alloc),
         extras: 0,
     }

@@ -1,6 +1,7 @@
 // What names mean where an expression stands.
 use crate::shapes::Shape;
 use eb_base::{Text, TypeNo};
+use eb_rule_names::{Named, VisibleNames};
 use eb_schema::{Field, Schema};
 use std::marker::Model;
 
@@ -20,6 +21,14 @@ pub struct Visible {
     pub bound: Bound,
 }
 
+impl Named for Visible {
+    ghost name_of = { λ visible. visible.name };
+
+    fn name(&self) -> &[u8] {
+        self.name.bytes()
+    }
+}
+
 /// Where an expression stands.
 #[derive(Drop)]
 pub struct Scope<'g, 'k> {
@@ -29,7 +38,7 @@ pub struct Scope<'g, 'k> {
     /// The types in the list `all` of the query; none in bakers.
     pub all: &'g [TypeNo],
     /// The visible names, each different.
-    pub known: &'k [Visible],
+    pub known: &'k VisibleNames<Visible>,
 }
 
 impl<'g, 'k> Model for Scope<'g, 'k> {

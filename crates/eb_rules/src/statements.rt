@@ -28,16 +28,19 @@ fn let_walk<'p>(
 ) -> Result<&'p [usize], WalkError>
     ensures { MatchResult result (λ q. spec.let_walk ground.now name.now value.now state.old places.now ≡ Ok (state.new, q.now)) (λ e. Stops (spec.let_walk ground.now name.now value.now state.old places.now) e) }
 {
-    if find_bound(name.bytes(), state.known.items()).is_some() {
+    if find_bound(name.bytes(), &state.known).is_some() {
         return Err(WalkError::Refused(refused(RuleKind::NameTaken, past(places, 1))));
     }
-    let scope = scope_of(ground, state.known.items());
+    let scope = scope_of(ground, &state.known);
     let (shape, rest) = typed(&scope, value, past(places, 3))?;
     let name = name.copy(alloc)?;
-    state.known.push(Visible {
-        name,
-        bound: Bound::Value(shape),
-    })?;
+    state.known.push(
+        alloc,
+        Visible {
+            name,
+            bound: Bound::Value(shape),
+        },
+    )?;
     Ok(past(rest, 1))
 }
 
@@ -50,7 +53,7 @@ fn add_walk<'p>(
 ) -> Result<&'p [usize], WalkError>
     ensures { MatchResult result (λ q. spec.add_walk ground.now add.now state.old places.now ≡ Ok (state.new, q.now)) (λ e. Stops (spec.add_walk ground.now add.now state.old places.now) e) }
 {
-    let rest = add_typed(ground, state.known.items(), &mut state.types, add, places)?;
+    let rest = add_typed(ground, &state.known, &mut state.types, add, places)?;
     Ok(rest)
 }
 
@@ -68,22 +71,19 @@ fn extra_walk<'p>(
     if state.extras >= MOST_EXTRAS {
         return Err(WalkError::Refused(refused(RuleKind::TooMany, places)));
     }
-    if find_bound(name.bytes(), state.known.items()).is_some() {
+    if find_bound(name.bytes(), &state.known).is_some() {
         return Err(WalkError::Refused(refused(RuleKind::NameTaken, past(places, 1))));
     }
     let mut types = Items::new(alloc);
-    let rest = adds_typed(
-        ground,
-        state.known.items(),
-        adds,
-        &mut types,
-        past(places, 3),
-    )?;
+    let rest = adds_typed(ground, &state.known, adds, &mut types, past(places, 3))?;
     let name = name.copy(alloc)?;
-    state.known.push(Visible {
-        name,
-        bound: Bound::Entity,
-    })?;
+    state.known.push(
+        alloc,
+        Visible {
+            name,
+            bound: Bound::Entity,
+        },
+    )?;
     state.extras += 1;
     Ok(past(rest, 1))
 }
@@ -97,11 +97,7 @@ fn test_typed<'p>(
 ) -> Result<&'p [usize], Refusal>
     ensures { MatchResult result (λ q. spec.test_typed ground.now test.now state.now places.now ≡ Ok q.now) (λ x. spec.test_typed ground.now test.now state.now places.now ≡ Err x) }
 {
-    let (shape, rest) = typed(
-        &scope_of(ground, state.known.items()),
-        test,
-        past(places, 1),
-    )?;
+    let (shape, rest) = typed(&scope_of(ground, &state.known), test, past(places, 1))?;
     if same_shape(Shape::Bool, shape) {
         Ok(rest)
     } else {

@@ -189,7 +189,8 @@ fn schema_in(alloc: Global, text: &str) -> Option<Schema> {
     Schema::read(alloc, &document).ok()
 }
 
-fn schema(alloc: Global) -> Option<Schema> {
+/// The schema of the project.
+pub fn schema(alloc: Global) -> Option<Schema> {
     schema_in(alloc, SCHEMA)
 }
 
@@ -206,6 +207,15 @@ fn job_refusal(alloc: Global, schema: &Schema, text: &[u8]) -> Option<RuleFault>
     match Job::read(alloc, text, schema) {
         Ok(_) => None,
         Err(fault) => Some(fault),
+    }
+}
+
+/// The refusal of a text, which is a job or isn't, or none.
+fn fault_of(alloc: Global, schema: &Schema, text: &[u8], is_job: bool) -> Option<RuleFault> {
+    if is_job {
+        job_refusal(alloc, schema, text)
+    } else {
+        refusal(alloc, schema, text)
     }
 }
 
@@ -242,14 +252,7 @@ fn is_refused(alloc: Global, schema: &Schema, line: &[u8], is_job: bool) -> bool
                 kind: kind_of(*letter),
             };
             match unmarked(alloc, part) {
-                Ok(text) => {
-                    let found = if is_job {
-                        job_refusal(alloc, schema, text.as_slice())
-                    } else {
-                        refusal(alloc, schema, text.as_slice())
-                    };
-                    found == Some(wanted)
-                }
+                Ok(text) => fault_of(alloc, schema, text.as_slice(), is_job) == Some(wanted),
                 Err(_) => false,
             }
         }
@@ -257,13 +260,18 @@ fn is_refused(alloc: Global, schema: &Schema, line: &[u8], is_job: bool) -> bool
     }
 }
 
-/// The first line of `READ` that isn't read.
-fn first_not_read(alloc: Global) -> Option<&'static str> {
-    let Some(schema) = schema(alloc) else {
+/// The first of these lines, which are jobs or aren't, that isn't accepted.
+pub fn first_not_accepted(
+    alloc: Global,
+    schema: Option<Schema>,
+    lines: &'static str,
+    are_jobs: bool,
+) -> Option<&'static str> {
+    let Some(schema) = schema else {
         return Some("no schema");
     };
-    for line in READ.lines() {
-        if refusal(alloc, &schema, line.as_bytes()).is_some() {
+    for line in lines.lines() {
+        if fault_of(alloc, &schema, line.as_bytes(), are_jobs).is_some() {
             return Some(line);
         }
     }
@@ -271,7 +279,7 @@ fn first_not_read(alloc: Global) -> Option<&'static str> {
 }
 
 /// The first of these lines that isn't refused as it says.
-fn first_not_refused(
+pub fn first_not_refused(
     alloc: Global,
     schema: Option<Schema>,
     lines: &'static str,
@@ -282,19 +290,6 @@ fn first_not_refused(
     };
     for line in lines.lines() {
         if !is_refused(alloc, &schema, line.as_bytes(), are_jobs) {
-            return Some(line);
-        }
-    }
-    None
-}
-
-/// The first line of `JOBS` that isn't read.
-fn first_job_not_read(alloc: Global) -> Option<&'static str> {
-    let Some(schema) = schema(alloc) else {
-        return Some("no schema");
-    };
-    for line in JOBS.lines() {
-        if job_refusal(alloc, &schema, line.as_bytes()).is_some() {
             return Some(line);
         }
     }
@@ -354,7 +349,7 @@ fn an_entity_has_at_most_32_types(rt: HostRuntime) {
 #[test]
 fn jobs_are_read_or_refused(rt: HostRuntime) {
     let alloc = rt.alloc();
-    assert_eq!(rt; first_job_not_read(alloc), None);
+    assert_eq!(rt; first_not_accepted(alloc, schema(alloc), JOBS, true), None);
     assert_eq!(rt;
         first_not_refused(alloc, schema(alloc), REFUSED_JOBS, true),
         None
@@ -370,7 +365,7 @@ fn rules_are_printed_and_read_again(rt: HostRuntime) {
 #[test]
 fn rules_are_read_or_refused(rt: HostRuntime) {
     let alloc = rt.alloc();
-    assert_eq!(rt; first_not_read(alloc), None);
+    assert_eq!(rt; first_not_accepted(alloc, schema(alloc), READ, false), None);
     assert_eq!(rt;
         first_not_refused(alloc, schema(alloc), REFUSED, false),
         None

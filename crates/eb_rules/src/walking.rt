@@ -2,6 +2,7 @@
 use crate::faults::Refusal;
 use crate::scopes::Visible;
 use eb_base::{Items, Memory, TypeNo};
+use eb_rule_names::VisibleNames;
 use eb_schema::{Field, Schema};
 use std::marker::Model;
 
@@ -36,10 +37,10 @@ impl From<Refusal> for WalkError {
 }
 
 /// What a walk over the statements of one baker or system has come to.
-#[derive(Debug, Drop)]
+#[derive(Drop)]
 pub struct State {
     /// The visible names.
-    pub known: Items<Visible>,
+    pub known: VisibleNames<Visible>,
     /// The different types that were added to the object's own entity.
     pub types: Items<TypeNo>,
     /// How many extras there were.
