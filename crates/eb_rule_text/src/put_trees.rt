@@ -42,38 +42,42 @@ pub fn put_expr(alloc: Global, out: &mut Vec<u8>, expr: &Expr) -> Result<(), Mem
         Expr::Null => put_mark(out, Mark::Null),
         Expr::Name(name) => put_name(out, name),
         Expr::Paren(inner) => put_enclosed(alloc, out, inner.get()),
-        Expr::ToFix(inner) => {
-            put_mark(out, Mark::Fix)?;
-            put_enclosed(alloc, out, inner.get())?;
-            Ok(())
-        }
-        Expr::ToInt(inner) => {
-            put_mark(out, Mark::Int)?;
-            put_enclosed(alloc, out, inner.get())?;
-            Ok(())
-        }
+        Expr::ToFix(inner) => put_call(alloc, out, Mark::Fix, inner.get()),
+        Expr::ToInt(inner) => put_call(alloc, out, Mark::Int, inner.get()),
         Expr::Read(read) => put_read(out, read),
         Expr::Find(found, last) => {
             put_finds(out, found.as_slice())?;
             put_expr(alloc, out, last.get())?;
             Ok(())
         }
-        Expr::Negate(operand) => {
-            put_mark(out, Mark::Minus)?;
-            put_expr(alloc, out, operand.get())?;
-            Ok(())
-        }
-        Expr::Not(operand) => {
-            put_mark(out, Mark::Not)?;
-            put_expr(alloc, out, operand.get())?;
-            Ok(())
-        }
+        Expr::Negate(operand) => put_marked(alloc, out, Mark::Minus, operand.get()),
+        Expr::Not(operand) => put_marked(alloc, out, Mark::Not, operand.get()),
         Expr::Chain(first, more) => {
             put_expr(alloc, out, first.get())?;
             put_links(alloc, out, more.as_slice())?;
             Ok(())
         }
     }
+}
+
+// A mark in front of an expression.
+#[cycle(putting)]
+fn put_marked(alloc: Global, out: &mut Vec<u8>, mark: Mark, expr: &Expr) -> Result<(), Memory>
+    ensures { OnOk result (out.new.items ≡ out.old.items ++ (spec.mark_out mark ++ spec.expr_text expr.now)) }
+{
+    put_mark(out, mark)?;
+    put_expr(alloc, out, expr)?;
+    Ok(())
+}
+
+// A mark in front of an expression in parentheses.
+#[cycle(putting)]
+fn put_call(alloc: Global, out: &mut Vec<u8>, mark: Mark, expr: &Expr) -> Result<(), Memory>
+    ensures { OnOk result (out.new.items ≡ out.old.items ++ (spec.mark_out mark ++ (spec.mark_out Mark.LParen ++ (spec.expr_text expr.now ++ spec.mark_out Mark.RParen)))) }
+{
+    put_mark(out, mark)?;
+    put_enclosed(alloc, out, expr)?;
+    Ok(())
 }
 
 // An expression in parentheses.

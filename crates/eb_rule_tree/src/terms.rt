@@ -77,10 +77,7 @@ pub fn term(alloc: Global, sight: &Sight<'_, '_>, expr: &Expr) -> Result<Term, M
         Expr::False => Ok(Term::False),
         Expr::Null => Ok(Term::Null),
         Expr::Name(name) => Ok(Term::Name(name_place(name.bytes(), sight.known))),
-        Expr::Paren(inner) => {
-            let inner = term(alloc, sight, inner.get())?;
-            Ok(inner)
-        }
+        Expr::Paren(inner) => term(alloc, sight, inner.get()),
         Expr::ToFix(inner) => {
             let inner = boxed(alloc, sight, inner.get())?;
             Ok(Term::ToFix(inner))

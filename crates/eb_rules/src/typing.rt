@@ -61,8 +61,7 @@ pub fn typed<'p>(
     match expr {
         Expr::Int(_) => Ok((Shape::Int, past(places, 1))),
         Expr::Fix(_) => Ok((Shape::Fix, past(places, 1))),
-        Expr::True => Ok((Shape::Bool, past(places, 1))),
-        Expr::False => Ok((Shape::Bool, past(places, 1))),
+        Expr::True | Expr::False => Ok((Shape::Bool, past(places, 1))),
         Expr::Null => Ok((Shape::Ref, past(places, 1))),
         Expr::Name(name) => name_shape(find_bound(name.bytes(), scope.known), places),
         Expr::Paren(inner) => {
@@ -81,15 +80,7 @@ pub fn typed<'p>(
             let shape = read_shape(scope, read, places)?;
             Ok((shape, past(places, read_tokens(read))))
         }
-        Expr::Find(finds, last) => {
-            let behind = find_names(scope, finds.as_slice(), places)?;
-            let (shape, rest) = typed(scope, last.get(), behind)?;
-            agreed(
-                innermost(scope, shape, finds.as_slice(), places),
-                shape,
-                rest,
-            )
-        }
+        Expr::Find(finds, last) => typed_finds(scope, finds.as_slice(), last.get(), places),
         Expr::Negate(operand) => {
             let (shape, rest) = typed(scope, operand.get(), past(places, 1))?;
             allowed(of_minus(shape), places, rest)
@@ -100,10 +91,25 @@ pub fn typed<'p>(
         }
         Expr::Chain(first, more) => {
             let (shape, rest) = typed(scope, first.get(), places)?;
-            let (shape, rest) = typed_links(scope, more.as_slice(), shape, places, rest)?;
-            Ok((shape, rest))
+            typed_links(scope, more.as_slice(), shape, places, rest)
         }
     }
+}
+
+// Reads, each with its `or`, and what stands behind the last one.
+#[cycle(typing)]
+#[tactic(auto, unfolding(crate::specs::Typing::typed))]
+fn typed_finds<'p>(
+    scope: &Scope<'_, '_>,
+    finds: &[Find],
+    last: &Expr,
+    places: &'p [usize],
+) -> Result<(Shape, &'p [usize]), Refusal>
+    ensures { MatchResult result (λ q. spec.finds_typed scope.now finds.now (spec.typed scope.now last.now) places.now ≡ Ok (q.0, q.1.now)) (λ x. spec.finds_typed scope.now finds.now (spec.typed scope.now last.now) places.now ≡ Err x) }
+{
+    let behind = find_names(scope, finds, places)?;
+    let (shape, rest) = typed(scope, last, behind)?;
+    agreed(innermost(scope, shape, finds, places), shape, rest)
 }
 
 // The links of a chain that begins at `places` and has this shape so far.
