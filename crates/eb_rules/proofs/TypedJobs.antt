@@ -195,6 +195,10 @@ says_at types text tree t places e h =
     let b = job_fits a.is types t places h in
     record { places = places; grammar = rw (← b.1) a; typed = rw (← b.1) b.0 }
 
+-- a text whose tree is found well typed by the walk
+pub read_fits : (types : Types) (text : Text) (tree : JobTree) (query : Query3) (places : Places) → read_text reader text ≡ Ok (placed tree places) → job_typed types tree places ≡ Ok (job_made tree query) → JobFits types tree query
+read_fits types text tree query places e h = (says_at types text tree (job_made tree query) places e h).typed
+
 says_where : (types : Types) (text : Text) (r : Result (Placed JobTree) TextError) (t : MeantJob) → read_text reader text ≡ r → meant_job types r ≡ Ok t → SaysJob types text t
 says_where types text (Ok p) t e h = says_at types text p.tree t p.places e h
 says_where types text (Err x) t e h = absurd (search rules)

@@ -25,7 +25,7 @@ use Rattle.eb_rules.specs.declared.walking.State.{State}
 use Rattle.eb_rules.specs.Scopes.{Text, authoring_fields, is_in_all}
 use Rattle.eb_rules.specs.Typing.{Places, Found}
 use Rattle.eb_rules.specs.Statements.{Walked, inside, walked}
-use Rattle.eb_rules.specs.Queries.{Listed, name_roomy, name_known, name_typed, names_from, list_typed, clashes, query3, unclashed, query_typed, small, unused, ranged, number_typed, first_state, baker_ground, system_ground, behind, baker_body, baker_typed, system_typed, Ruled, with_used, baker_used, system_used, rule_typed, and_rules, rules_typed, no_numbers, with_tree, meant, rules_of}
+use Rattle.eb_rules.specs.Queries.{Listed, name_roomy, name_known, name_typed, names_from, list_typed, clashes, query3, unclashed, query_typed, small, unused, ranged, number_typed, first_state, baker_ground, system_ground, behind, baker_body, baker_typed, system_typed, Ruled, with_used, baker_used, system_used, rule_typed, and_rules, rules_typed, no_numbers, with_tree, meant, rules_of, Passes}
 use Rattle.eb_rules.specs.WellTyped.{AreNamed, QueryFits, BakerFits, SystemFits, RulesFit, no_rule, one_baker, one_system, AreWellTyped}
 use Rattle.eb_rules.specs.Says.{SaysRules}
 use Rattle.eb_rules.proofs.TypedInits.{went, goes_on}
@@ -239,6 +239,10 @@ says_at : (types : Types) (text : Text) (tree t : RulesTree) (places q : Places)
 says_at types text tree t places q e same h =
     let a = rules_spelled text tree places e in
     moved types text tree t same (record { places = places; grammar = a; typed = rules_fit a.is types no_numbers places q h })
+
+-- a text whose tree is found well typed by the walk
+pub read_says : (types : Types) (text : Text) (tree : RulesTree) (places : Places) → read_text reader text ≡ Ok (placed tree places) → Passes (rules_typed types tree.rules no_numbers places) → SaysRules types text tree
+read_says types text tree places e passes = says_at types text tree tree places passes.0 e refl passes.1
 
 says_where : (types : Types) (text : Text) (r : Result (Placed RulesTree) TextError) (t : RulesTree) → read_text reader text ≡ r → meant types r ≡ Ok t → SaysRules types text t
 says_where types text (Ok p) t e h =

@@ -6,9 +6,8 @@ use Rattle.eb_rule_text.specs.Passes.{Spells}
 use Rattle.eb_schema.specs.Schemas.{Types}
 use Rattle.eb_rules.specs.declared.faults.RuleFault.{RuleFault}
 use Rattle.eb_rules.specs.declared.faults.RuleFault.TheVariants.{Memory}
-use Rattle.eb_rules.specs.declared.jobs.Job.{Job}
 use Rattle.eb_rules.specs.Jobs.{MeantJob, job_made}
-use Rattle.eb_rules.specs.Kept.{Kept}
+use Rattle.eb_rules.specs.Kept.{Kept, KeptJob}
 use Rattle.eb_rules.specs.Scopes.{Text}
 use Rattle.eb_rules.specs.WellTyped.{AreWellTyped, JobFits}
 
@@ -28,6 +27,6 @@ AreReadAs (Ok rules) told = rules.tree ≡ told
 AreReadAs (Err fault) told = fault ≡ Memory
 
 -- a job is read as this one, unless memory fails
-abbrev pub IsReadAs : Result Job RuleFault → MeantJob → Type 0
+abbrev pub IsReadAs : Result KeptJob RuleFault → MeantJob → Type 0
 IsReadAs (Ok job) told = job_made job.tree job.query ≡ told
 IsReadAs (Err fault) told = fault ≡ Memory

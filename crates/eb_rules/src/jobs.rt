@@ -1,10 +1,12 @@
 // Jobs of a text.
-ghost use Rattle.std.specs.Prelude.{◌≡◌, MatchResult, Ok, Err, IfOk, Some, [], drop};
+ghost use Rattle.std.specs.Prelude.{◌≡◌, true, MatchResult, Ok, Err, IfOk, Some, [], drop};
 ghost use Rattle.eb_rule_tree.specs.Plans.{job_plan};
 ghost use Rattle.eb_rules.specs.Jobs as spec;
+ghost use Rattle.eb_rules.specs.Resolved.{job_fits};
 ghost use Rattle.eb_rules.specs.Says.{SaysJob, IsReadAs};
 ghost use Rattle.eb_rules.specs.Statements.{Stops, fitted};
 ghost use Rattle.eb_rules.specs.Typing as typing;
+ghost use Rattle.eb_rules.specs.WellTyped.{JobFits};
 
 use crate::commands::{commands_typed, job_scope};
 use crate::faults::{Refusal, RuleFault, RuleKind};
@@ -14,19 +16,38 @@ use crate::rules::{of_text, of_walk};
 use crate::shapes::{Shape, same_shape};
 use crate::typing::typed;
 use crate::walking::WalkError;
-use eb_base::TypeNo;
+use eb_base::{Memory, TypeNo};
 use eb_rule_names::VisibleNames;
 use eb_rule_text::{Expr, JobTree, read_job};
 use eb_rule_tree::{JobPlan, plan_job};
 use eb_schema::Schema;
 use std::alloc::Global;
+use std::marker::Model;
 
-/// A job: a tree whose names are there and whose types fit, the types of its query, and the tree that evaluation walks.
+/// A job: a tree whose names are there and whose types fit, the types of its query, the tree that evaluation walks, and the
+/// schema that all are about. Contracts see these four, and know that the first tree is well typed with this query, and that
+/// the second tree is that of the first.
 #[derive(Drop)]
 pub struct Job {
+    schema: Schema,
     tree: JobTree,
     query: Query3,
     plan: JobPlan,
+}
+
+impl Model for Job {
+    ghost use Rattle.std.specs.Prelude.{◌≡◌};
+    ghost use Rattle.eb_rule_tree.specs.Plans.{job_plan};
+    ghost use Rattle.eb_rules.specs.Kept.{KeptJob, coded_job};
+    ghost use Rattle.eb_rules.specs.WellTyped.{JobFits};
+
+    ghost Value = { KeptJob };
+
+    ghost coded = { coded_job };
+
+    ghost view = { λ j. record { schema = j.schema; tree = j.tree; query = j.query; plan = j.plan } };
+
+    ghost invariant = { λ j. JobFits j.schema j.tree j.query × (j.plan ≡ job_plan j.schema j.tree) };
 }
 
 // The key, which is a whole number.
@@ -69,23 +90,35 @@ fn job_typed(
     Ok(query)
 }
 
+// A job with all that it keeps.
+fn kept(alloc: Global, schema: &Schema, tree: JobTree, query: Query3) -> Result<Job, Memory>
+    requires fits { JobFits schema.now tree query }
+    ensures { IfOk result (λ j. j ≡ record { schema = schema.now; tree = tree; query = query; plan = job_plan schema.now tree }) }
+{
+    let plan = plan_job(alloc, schema, &tree)?;
+    let schema = schema.copy(alloc)?;
+    Ok(Job {
+        schema,
+        tree,
+        query,
+        plan,
+    })
+}
+
 // The job of a text, by the three passes.
 #[tactic(auto, unfolding(crate::specs::Jobs::job_of))]
 fn job_in(alloc: Global, text: &[u8], schema: &Schema) -> Result<Job, RuleFault>
     ensures told { MatchResult result (λ j. spec.job_of schema.now text.now ≡ Ok (spec.job_made j.tree j.query)) (λ e. spec.TellsJob (spec.job_of schema.now text.now) e) }
+    ensures schema { IfOk result (λ j. j.schema ≡ schema.now) }
     ensures plan { IfOk result (λ j. j.plan ≡ job_plan schema.now j.tree) }
 {
     match read_job(alloc, text) {
         Err(e) => Err(of_text(e)),
         Ok(placed) => match job_typed(alloc, schema, &placed.tree, placed.places.items()) {
             Err(e) => Err(of_walk(e)),
-            Ok(query) => match plan_job(alloc, schema, &placed.tree) {
+            Ok(query) => match kept(alloc, schema, placed.tree, query) {
                 Err(_) => Err(RuleFault::Memory),
-                Ok(plan) => Ok(Job {
-                    tree: placed.tree,
-                    query,
-                    plan,
-                }),
+                Ok(job) => Ok(job),
             },
         },
     }
@@ -98,9 +131,17 @@ impl Job {
         ensures told { MatchResult result (λ j. spec.job_of schema.now text.now ≡ Ok (spec.job_made j.tree j.query)) (λ e. spec.TellsJob (spec.job_of schema.now text.now) e) }
         ensures says { IfOk result (λ j. SaysJob schema.now text.now (spec.job_made j.tree j.query)) }
         ensures accepts { (job : spec.MeantJob) → SaysJob schema.now text.now job → IsReadAs result job }
+        ensures schema { IfOk result (λ j. j.schema ≡ schema.now) }
         ensures plan { IfOk result (λ j. j.plan ≡ job_plan schema.now j.tree) }
     {
         job_in(alloc, text, schema)
+    }
+
+    /// The schema that the job was read with. Takes no memory.
+    pub fn schema(&self) -> &Schema
+        ensures { result.now ≡ self.now.schema }
+    {
+        &self.schema
     }
 
     /// The types of the job's query. Takes no memory.
@@ -112,14 +153,17 @@ impl Job {
 
     /// The tree that evaluation walks, with numbers and places for names. `docs/rules.md`, "Resolved trees". Takes no memory.
     pub fn resolved(&self) -> &JobPlan
-        ensures { result.now ≡ self.now.plan }
+        ensures plan { result.now ≡ self.now.plan }
+        ensures resolves { result.now ≡ job_plan self.now.schema self.now.tree }
+        ensures fits { job_fits self.now.schema result.now ≡ true }
     {
         &self.plan
     }
 
     /// The tree of the job. Takes no memory.
     pub fn tree(&self) -> &JobTree
-        ensures { result.now ≡ self.now.tree }
+        ensures tree { result.now ≡ self.now.tree }
+        ensures typed { JobFits self.now.schema result.now self.now.query }
     {
         &self.tree
     }

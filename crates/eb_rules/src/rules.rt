@@ -1,9 +1,10 @@
 // Names and types of whole rules, and rules of a text.
-ghost use Rattle.std.specs.Prelude.{◌≡◌, ◌++◌, ◌∷◌, [], MatchResult, Ok, Err, IfOk};
+ghost use Rattle.std.specs.Prelude.{◌≡◌, ℕ, List, true, MatchResult, Ok, Err, IfOk};
 ghost use Rattle.eb_rule_text.specs.Printing as printing;
 ghost use Rattle.eb_rule_text.specs.declared.trees.RulesTree.{RulesTree};
 ghost use Rattle.eb_rule_tree.specs.Plans.{rules_plan};
 ghost use Rattle.eb_rules.specs.Queries as spec;
+ghost use Rattle.eb_rules.specs.Resolved.{rules_fit};
 ghost use Rattle.eb_rules.specs.Says.{SaysRules, AreReadAs};
 ghost use Rattle.eb_rules.specs.Scopes as scopes;
 ghost use Rattle.eb_rules.specs.Statements.{Stops};
@@ -180,26 +181,29 @@ fn rules_typed(
     Ok(())
 }
 
-/// The rules of a project: a tree whose names are there and whose types fit, and the tree that evaluation walks.
+/// The rules of a project: a tree whose names are there and whose types fit, the tree that evaluation walks, and the schema
+/// that both are about. Contracts see these three, and know that some text says the rules and that the second tree is that of
+/// the first.
 #[derive(Drop)]
 pub struct Rules {
+    schema: Schema,
     tree: RulesTree,
     plan: RulesPlan,
 }
 
 impl Model for Rules {
-    ghost use Rattle.std.specs.Prelude.{ℕ, List};
-    ghost use Rattle.eb_rule_text.specs.Grammar.{IsRules};
-    ghost use Rattle.eb_rule_text.specs.Passes.{Spells};
+    ghost use Rattle.std.specs.Prelude.{◌≡◌, ℕ, List};
+    ghost use Rattle.eb_rule_tree.specs.Plans.{rules_plan};
     ghost use Rattle.eb_rules.specs.Kept.{Kept, coded_kept};
+    ghost use Rattle.eb_rules.specs.Says.{SaysRules};
 
     ghost Value = { Kept };
 
     ghost coded = { coded_kept };
 
-    ghost view = { λ r. record { tree = r.tree; plan = r.plan } };
+    ghost view = { λ r. record { schema = r.schema; tree = r.tree; plan = r.plan } };
 
-    ghost invariant = { λ r. (text : List ℕ) × ((places : List ℕ) × Spells IsRules text r.tree places) };
+    ghost invariant = { λ r. ((text : List ℕ) × SaysRules r.schema text r.tree) × (r.plan ≡ rules_plan r.schema r.tree) };
 }
 
 fn capped(at: usize) -> u32
@@ -250,10 +254,21 @@ pub fn of_walk(e: WalkError) -> RuleFault
     }
 }
 
+// Rules with all that they keep.
+fn kept(alloc: Global, schema: &Schema, tree: RulesTree) -> Result<Rules, Memory>
+    requires said { (text : List ℕ) × SaysRules schema.now text tree }
+    ensures { IfOk result (λ r. r ≡ record { schema = schema.now; tree = tree; plan = rules_plan schema.now tree }) }
+{
+    let plan = plan_rules(alloc, schema, &tree)?;
+    let schema = schema.copy(alloc)?;
+    Ok(Rules { schema, tree, plan })
+}
+
 // The rules of a text, by the three passes.
 #[tactic(auto, unfolding(crate::specs::Queries::rules_of))]
 fn rules_in(alloc: Global, text: &[u8], schema: &Schema) -> Result<Rules, RuleFault>
     ensures told { MatchResult result (λ r. spec.rules_of schema.now text.now ≡ Ok r.tree) (λ e. spec.Tells (spec.rules_of schema.now text.now) e) }
+    ensures schema { IfOk result (λ r. r.schema ≡ schema.now) }
     ensures plan { IfOk result (λ r. r.plan ≡ rules_plan schema.now r.tree) }
 {
     match read_rules(alloc, text) {
@@ -266,12 +281,9 @@ fn rules_in(alloc: Global, text: &[u8], schema: &Schema) -> Result<Rules, RuleFa
                 placed.places.items(),
             ) {
                 Err(e) => Err(of_walk(e)),
-                Ok(()) => match plan_rules(alloc, schema, &placed.tree) {
+                Ok(()) => match kept(alloc, schema, placed.tree) {
                     Err(_) => Err(RuleFault::Memory),
-                    Ok(plan) => Ok(Rules {
-                        tree: placed.tree,
-                        plan,
-                    }),
+                    Ok(rules) => Ok(rules),
                 },
             }
         }
@@ -285,30 +297,42 @@ impl Rules {
         ensures told { MatchResult result (λ r. spec.rules_of schema.now text.now ≡ Ok r.tree) (λ e. spec.Tells (spec.rules_of schema.now text.now) e) }
         ensures says { IfOk result (λ r. SaysRules schema.now text.now r.tree) }
         ensures accepts { (tree : RulesTree) → SaysRules schema.now text.now tree → AreReadAs result tree }
+        ensures schema { IfOk result (λ r. r.schema ≡ schema.now) }
         ensures plan { IfOk result (λ r. r.plan ≡ rules_plan schema.now r.tree) }
     {
         rules_in(alloc, text, schema)
     }
 
+    /// The schema that the rules were read with. Takes no memory.
+    pub fn schema(&self) -> &Schema
+        ensures { result.now ≡ self.now.schema }
+    {
+        &self.schema
+    }
+
     /// The tree of the rules. Takes no memory.
     pub fn tree(&self) -> &RulesTree
-        ensures { result.now ≡ self.now.tree }
+        ensures tree { result.now ≡ self.now.tree }
+        ensures typed { AreWellTyped self.now.schema result.now }
     {
         &self.tree
     }
 
     /// The tree that evaluation walks, with numbers and places for names. `docs/rules.md`, "Resolved trees". Takes no memory.
     pub fn resolved(&self) -> &RulesPlan
-        ensures { result.now ≡ self.now.plan }
+        ensures plan { result.now ≡ self.now.plan }
+        ensures resolves { result.now ≡ rules_plan self.now.schema self.now.tree }
+        ensures fits { rules_fit self.now.schema result.now ≡ true }
     {
         &self.plan
     }
 }
 
-/// The text of rules. It says the same rules again over each schema in which they are well typed. `docs/rules.md`, "Printing".
+/// The text of rules. It says the same rules again over their schema, and over each other one in which they are well typed. `docs/rules.md`, "Printing".
 pub fn rules_text(alloc: Global, rules: &Rules) -> Result<Text, Memory>
     ensures text { IfOk result (λ text. text ≡ printing.rules_text rules.now.tree) }
     ensures again { IfOk result (λ text. (types : Types) → AreWellTyped types rules.now.tree → SaysRules types text rules.now.tree) }
+    ensures same { IfOk result (λ text. SaysRules rules.now.schema text rules.now.tree) }
 {
     let text = print_rules(alloc, &rules.tree)?;
     Ok(text)

@@ -91,7 +91,8 @@ pub fn typed<'p>(
         }
         Expr::Chain(first, more) => {
             let (shape, rest) = typed(scope, first.get(), places)?;
-            typed_links(scope, more.as_slice(), shape, places, rest)
+            let (shape, rest) = typed_links(scope, more.as_slice(), shape, places, rest)?;
+            Ok((shape, rest))
         }
     }
 }

@@ -1,5 +1,6 @@
-use Rattle.eb_rule_text.proofs.ReadsBack.{rules_spelled}
+use Rattle.eb_rules.proofs.TypedTexts.{read_says}
 use Rattle.eb_rules.proofs.rules.rules_in.Goals as goal
 
-pub invariant_of-result : goal.invariant_of-result
-invariant_of-result c = (c.args.text.now, (c.in-Ok.placed.places, rules_spelled c.args.text.now c.in-Ok.placed.tree c.in-Ok.placed.places c.in-Ok.ensures))
+pub kept-requires : goal.kept-requires
+kept-requires c =
+    record { said = (c.args.text.now, read_says c.args.schema.now c.args.text.now c.in-Ok.placed.tree c.in-Ok.placed.places c.in-Ok.ensures (rw (← c.items.ensures, ← c.as_slice.ensures) c.in-Ok-rules_typed.ensures)) }
