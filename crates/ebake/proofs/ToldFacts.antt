@@ -1,7 +1,7 @@
 -- The whole run by the form of its words and by what its folder holds.
 use Rattle.std.proofs.Math.Seq.{take_all}
 use Rattle.std.proofs.lemmas.Bool.Decides.{nat_tests}
-use Rattle.std.proofs.Common.{arith, nat_lt, length, ◌≤◌, ◌⊎◌, inl, inr, ◌≡◌, ℕ, Bool, true, false, List, ◌++◌, refl, sym, ap, ◌∙◌, subst}
+use Rattle.std.proofs.Common.{arith, nat_lt, length, ◌≤◌, ◌⊎◌, inl, inr, ◌≡◌, ℕ, Bool, true, false, List, refl, sym, ap, ◌∙◌, subst}
 use Rattle.std.specs.Prelude.{Option, None, Some, IfSome, Result, Ok, Err, IfOk, take}
 use Rattle.eb_outside.specs.Shelves.{Files}
 use Rattle.eb_outside.specs.Streams.{appended}
@@ -9,7 +9,7 @@ use Rattle.eb_session.specs.Machine.{State}
 use Rattle.eb_session.specs.Opening.{opened}
 use Rattle.ebake.specs.Lines.{pieces, all_lines, plan_where, plan_of, plan}
 use Rattle.ebake.specs.Words.{is_form, usage_text}
-use Rattle.ebake.specs.Told.{End, replay, session_end, opened_end, run_end, told, ended, end_with, WhereTold, IsWithin}
+use Rattle.ebake.specs.Told.{End, replay, session_end, opened_end, run_end, told, ended, WhereTold, IsWithin}
 use Rattle.ebake.specs.Progress.{first_standing, whole, IsFront, Follows}
 use Rattle.ebake.specs.Stops.{stop_of_outside}
 use Rattle.ebake.specs.declared.stops.Stop.{Stop}

@@ -198,12 +198,12 @@ impl Reader {
     }
 
     /// Answers the last line, which no line feed ends, unless it is empty.
-    fn finish<H: Shelf>(&mut self, shelf: &mut H, kept: &mut Vec<u8>) -> Result<(), Stop>
-        requires ready { IsReady self.old }
-        ensures told { (line : List ℕ) (held : Option (List ℕ)) → IsAt self.old line → Finishes result (standing self.old line) (H.files shelf.old) (H.files shelf.new) (appended held kept.old.items) (appended held kept.new.items) }
+    fn finish<H: Shelf>(mut self, shelf: &mut H, kept: &mut Vec<u8>) -> Result<(), Stop>
+        requires ready { IsReady self }
+        ensures told { (line : List ℕ) (held : Option (List ℕ)) → IsAt self line → Finishes result (standing self line) (H.files shelf.old) (H.files shelf.new) (appended held kept.old.items) (appended held kept.new.items) }
         ensures later { H.faults shelf.old ≤ H.faults shelf.new }
         ensures cause { IsErrOf result Stop.Outside → Rose (H.faults shelf.old) (H.faults shelf.new) }
-        ensures publishes { IsErrOf result Stop.Outside → (0 < length self.old.line.items) × (request_of self.old.line.items ≡ Ok Publish) × (kept.new.items ≡ kept.old.items) }
+        ensures publishes { IsErrOf result Stop.Outside → (0 < length self.line.items) × (request_of self.line.items ≡ Ok Publish) × (kept.new.items ≡ kept.old.items) }
     {
         if self.line.is_empty() {
             return Ok(());
@@ -242,17 +242,17 @@ impl Reader {
         give_then(sink, kept, fed)
     }
 
-    /// Answers the last line, and gives the sink its reply.
+    /// Answers the last line, and gives the sink its reply. The reader is spent.
     pub fn close<H: Shelf, O: Sink>(
-        &mut self,
+        self,
         shelf: &mut H,
         kept: &mut Vec<u8>,
         sink: &mut O,
     ) -> Result<(), Stop>
-        requires ready { IsReady self.old }
+        requires ready { IsReady self }
         requires none { kept.old.items ≡ [] }
-        ensures told { (line : List ℕ) → IsAt self.old line → Finishes result (standing self.old line) (H.files shelf.old) (H.files shelf.new) (O.put sink.old) (O.put sink.new) }
-        ensures publishes { IsErrOf result Stop.Outside → Rose (O.faults sink.old) (O.faults sink.new) ⊎ ((0 < length self.old.line.items) × (request_of self.old.line.items ≡ Ok Publish) × (O.put sink.new ≡ O.put sink.old)) }
+        ensures told { (line : List ℕ) → IsAt self line → Finishes result (standing self line) (H.files shelf.old) (H.files shelf.new) (O.put sink.old) (O.put sink.new) }
+        ensures publishes { IsErrOf result Stop.Outside → Rose (O.faults sink.old) (O.faults sink.new) ⊎ ((0 < length self.line.items) × (request_of self.line.items ≡ Ok Publish) × (O.put sink.new ≡ O.put sink.old)) }
         ensures shelf { H.faults shelf.old ≤ H.faults shelf.new }
         ensures sink { O.faults sink.old ≤ O.faults sink.new }
         ensures cause { IsErrOf result Stop.Outside → Rose (H.faults shelf.old) (H.faults shelf.new) ⊎ Rose (O.faults sink.old) (O.faults sink.new) }

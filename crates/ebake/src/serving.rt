@@ -32,21 +32,21 @@ fn take_piece<I: Source>(source: &mut I, buffer: &mut [u8], most: usize) -> Resu
 /// to the sink before more is taken.
 fn serve<H: Shelf, I: Source, O: Sink>(
     alloc: Global,
-    reader: &mut Reader,
+    mut reader: Reader,
     shelf: &mut H,
     source: &mut I,
     sink: &mut O,
 ) -> Result<(), Stop>
-    requires ready { IsReady reader.old }
-    requires fresh { IsAt reader.old [] }
-    requires opens { IfSome (H.files shelf.old) (λ files. opened files ≡ Ok reader.old.session) }
+    requires ready { IsReady reader }
+    requires fresh { IsAt reader [] }
+    requires opens { IfSome (H.files shelf.old) (λ files. opened files ≡ Ok reader.session) }
     ensures told { Serves result
-        (whole (standing reader.old []) (H.files shelf.old) (I.left source.old) (O.put sink.old))
+        (whole (standing reader []) (H.files shelf.old) (I.left source.old) (O.put sink.old))
         (H.files shelf.new) (I.left source.new) (O.put sink.new) }
     ensures spent { OnOk result (IsSpent (I.left source.new)) }
     ensures causes { IsErrOf result Stop.Outside → Rose (O.faults sink.old) (O.faults sink.new)
         ⊎ ((Rose (I.faults source.old) (I.faults source.new) × HasAnswered (H.files shelf.old) (I.left source.old) (I.left source.new) (O.put sink.old) (O.put sink.new))
-        ⊎ (Rose (H.faults shelf.old) (H.faults shelf.new) × IsAtPublication reader.old.lines reader.old.bytes (H.files shelf.old) (I.left source.old) (O.put sink.old) (O.put sink.new))) }
+        ⊎ (Rose (H.faults shelf.old) (H.faults shelf.new) × IsAtPublication reader.lines reader.bytes (H.files shelf.old) (I.left source.old) (O.put sink.old) (O.put sink.new))) }
     ensures shelf { H.faults shelf.old ≤ H.faults shelf.new }
     ensures source { I.faults source.old ≤ I.faults source.new }
     ensures sink { O.faults sink.old ≤ O.faults sink.new }
@@ -91,7 +91,7 @@ pub fn answer_lines<H: Shelf, I: Source, O: Sink>(
     ensures source { I.faults source.old ≤ I.faults source.new }
     ensures sink { O.faults sink.old ≤ O.faults sink.new }
 {
-    let mut reader = Reader::open(alloc, limits, session);
-    serve(alloc, &mut reader, shelf, source, sink)?;
+    let reader = Reader::open(alloc, limits, session);
+    serve(alloc, reader, shelf, source, sink)?;
     Ok(0)
 }

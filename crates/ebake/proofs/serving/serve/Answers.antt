@@ -13,7 +13,7 @@ pub pieces-init : goal.pieces-init
 pieces-init g c = record {
   ready = c.requires.ready;
   none = c.new-kept.ensures.items;
-  told = ([], (search rules, ReadsOn-none c.args.reader.now [] (g.H.Shelf.files c.args.shelf.now) (g.O.Sink.put c.args.sink.now) c.requires.fresh));
+  told = ([], (search rules, ReadsOn-none c.args.reader [] (g.H.Shelf.files c.args.shelf.now) (g.O.Sink.put c.args.sink.now) c.requires.fresh));
   shelf = omega arith;
   source = omega arith;
   sink = omega arith;
@@ -23,7 +23,7 @@ pub returns-in_err-count-clause-told : goal.returns-in_err-count-clause-told
 returns-in_err-count-clause-told g c =
     let p = err_from_is_err_and c.from_residual.result c.from_residual.ensures.1 in
     let t = c.pieces.invariant.told in
-    rw (p.1, p.2) (IsFront-on (standing c.args.reader.now []) c.pieces.reader t.0 (g.H.Shelf.files c.args.shelf.now) (g.H.Shelf.files c.pieces.shelf) (g.I.Source.left c.args.source.now) (g.I.Source.left c.pieces.source)
+    rw (p.1, p.2) (IsFront-on (standing c.args.reader []) c.pieces.reader t.0 (g.H.Shelf.files c.args.shelf.now) (g.H.Shelf.files c.pieces.shelf) (g.I.Source.left c.args.source.now) (g.I.Source.left c.pieces.source)
     (g.O.Sink.put c.args.sink.now) (g.O.Sink.put c.pieces.sink) t.1.0 t.1.1)
 
 pub returns-in_err-count-clause-causes : goal.returns-in_err-count-clause-causes
@@ -33,7 +33,7 @@ returns-in_err-count-clause-causes g c failed =
     let same : left ≡ g.I.Source.left c.pieces.source = TakesKnown-err Fault (g.I.Source.left c.pieces.source) left c.in_err-count.field-0.0 c.take_piece.new.buffer c.in_err-count.ensures.bytes in
     inr (inl (
       Rose-since (g.I.Source.faults c.args.source.now) (g.I.Source.faults c.pieces.source) (g.I.Source.faults c.take_piece.new.source) c.pieces.invariant.source c.in_err-count.ensures.cause.failed,
-      HasAnswered-on (standing c.args.reader.now []) c.pieces.reader t.0 (g.H.Shelf.files c.args.shelf.now) (g.H.Shelf.files c.pieces.shelf) (g.I.Source.left c.args.source.now) left
+      HasAnswered-on (standing c.args.reader []) c.pieces.reader t.0 (g.H.Shelf.files c.args.shelf.now) (g.H.Shelf.files c.pieces.shelf) (g.I.Source.left c.args.source.now) left
           (g.O.Sink.put c.args.sink.now) (g.O.Sink.put c.pieces.sink) refl c.requires.opens (t.1.0 ∙ ap (behind_taken t.0) (sym same)) t.1.1,
     ))
 
@@ -42,7 +42,7 @@ returns-then-count-eq0-clause-told g c =
     let t = c.pieces.invariant.told in
     let left = g.I.Source.left c.take_piece.new.source in
     let spent = spent_at_end Fault (g.I.Source.left c.pieces.source) left c.take_piece.new.buffer (rw c.if-count-eq0.true at c.in_ok-count.ensures.bytes) in
-    Serves-finishes (Unit {0}) c.close.result (standing c.args.reader.now []) c.pieces.reader t.0 (g.H.Shelf.files c.args.shelf.now) (g.H.Shelf.files c.pieces.shelf) (g.H.Shelf.files c.close.new.shelf) (g.I.Source.left c.args.source.now) left
+    Serves-finishes (Unit {0}) c.close.result (standing c.args.reader []) c.pieces.reader t.0 (g.H.Shelf.files c.args.shelf.now) (g.H.Shelf.files c.pieces.shelf) (g.H.Shelf.files c.close.new.shelf) (g.I.Source.left c.args.source.now) left
     (g.O.Sink.put c.args.sink.now) (g.O.Sink.put c.pieces.sink) (g.O.Sink.put c.close.new.sink) t.1.1 (t.1.0 ∙ ap (behind_taken t.0) (sym spent.0)) c.pieces.invariant.ready spent.1 (c.close.ensures.told t.1.1.line t.1.1.is_at)
 
 pub returns-then-count-eq0-clause-causes : goal.returns-then-count-eq0-clause-causes
@@ -56,7 +56,7 @@ returns-then-count-eq0-clause-causes g c failed =
         | inl rose ↦ inr (inr (
           Rose-since (g.H.Shelf.faults c.args.shelf.now) (g.H.Shelf.faults c.pieces.shelf) (g.H.Shelf.faults c.close.new.shelf) c.pieces.invariant.shelf rose,
           rw publishes.2
-              (IsAtPublication-last (standing c.args.reader.now []) c.pieces.reader t.0 (g.H.Shelf.files c.args.shelf.now) (g.H.Shelf.files c.pieces.shelf) (g.I.Source.left c.args.source.now) left (g.O.Sink.put c.args.sink.now) (g.O.Sink.put c.pieces.sink)
+              (IsAtPublication-last (standing c.args.reader []) c.pieces.reader t.0 (g.H.Shelf.files c.args.shelf.now) (g.H.Shelf.files c.pieces.shelf) (g.I.Source.left c.args.source.now) left (g.O.Sink.put c.args.sink.now) (g.O.Sink.put c.pieces.sink)
               t.1.1 refl c.requires.opens (t.1.0 ∙ ap (behind_taken t.0) (sym spent.0)) spent.1 c.pieces.invariant.ready publishes.0 publishes.1),
         ))
         | inr rose ↦ inl (Rose-since (g.O.Sink.faults c.args.sink.now) (g.O.Sink.faults c.pieces.sink) (g.O.Sink.faults c.close.new.sink) c.pieces.invariant.sink rose)
@@ -72,7 +72,7 @@ returns-then-room-eq0-clause-told g c =
     let left = g.I.Source.left c.take_piece.new.source in
     let some : 0 < length (take count buffer) = simp length-take (omega (arith, c.in_ok-count.ensures.fits)) in
     let full : length reader.line.items + reader.skipped ≡ reader.bytes = omega (arith, c.room-room.ensures) in
-    ended-out (standing c.args.reader.now []) reader t.0 (take count buffer) (g.H.Shelf.files c.args.shelf.now) (g.H.Shelf.files c.pieces.shelf) (g.I.Source.left c.args.source.now) left (g.O.Sink.put c.args.sink.now) (g.O.Sink.put c.pieces.sink)
+    ended-out (standing c.args.reader []) reader t.0 (take count buffer) (g.H.Shelf.files c.args.shelf.now) (g.H.Shelf.files c.pieces.shelf) (g.I.Source.left c.args.source.now) left (g.O.Sink.put c.args.sink.now) (g.O.Sink.put c.pieces.sink)
     t.1.1 (taken_more Fault t.0 (g.I.Source.left c.args.source.now) (g.I.Source.left c.pieces.source) left count buffer t.1.0 c.in_ok-count.ensures.bytes) c.pieces.invariant.ready full some
 
 pub pieces-preserved : goal.pieces-preserved
@@ -89,7 +89,7 @@ pieces-preserved g c =
         t.0 ++ take count buffer,
         (
           taken_both Fault t.0 (g.I.Source.left c.args.source.now) (g.I.Source.left c.pieces.source) left count buffer t.1.0 c.in_ok-count.ensures.bytes,
-          ReadsOn-then (standing c.args.reader.now []) c.pieces.reader c.feed_piece.new.self t.0 (take count buffer) (g.H.Shelf.files c.args.shelf.now) (g.H.Shelf.files c.pieces.shelf) (g.H.Shelf.files c.feed_piece.new.shelf)
+          ReadsOn-then (standing c.args.reader []) c.pieces.reader c.feed_piece.new.self t.0 (take count buffer) (g.H.Shelf.files c.args.shelf.now) (g.H.Shelf.files c.pieces.shelf) (g.H.Shelf.files c.feed_piece.new.shelf)
               (g.O.Sink.put c.args.sink.now) (g.O.Sink.put c.pieces.sink) (g.O.Sink.put c.feed_piece.new.sink) reads (c.in_ok-feed_piece.ensures.told reads.line reads.is_at),
         ),
       );
@@ -110,7 +110,7 @@ returns-in_err-feed_piece-clause-told g c =
     let held = g.O.Sink.put c.args.sink.now in
     let now = g.O.Sink.put c.feed_piece.new.sink in
     let left = g.I.Source.left c.take_piece.new.source in
-    let start = standing c.args.reader.now [] in
+    let start = standing c.args.reader [] in
     let reader = c.feed_piece.new.self in
     rw (p.1, p.2) (Serves-goes (Unit {0}) (Unit {0}) c.in_err-feed_piece.field-0.0 start reader taken before after (g.I.Source.left c.args.source.now) left held now
     (taken_both Fault t.0 (g.I.Source.left c.args.source.now) (g.I.Source.left c.pieces.source) left c.in_ok-count.count c.take_piece.new.buffer t.1.0 c.in_ok-count.ensures.bytes)
@@ -128,7 +128,7 @@ returns-in_err-feed_piece-clause-causes g c failed =
     let held = g.O.Sink.put c.args.sink.now in
     let now = g.O.Sink.put c.feed_piece.new.sink in
     let left = g.I.Source.left c.take_piece.new.source in
-    let start = standing c.args.reader.now [] in
+    let start = standing c.args.reader [] in
     let outside = rw (p.1, p.2) at failed in
     let sink_since = Rose-since (g.O.Sink.faults c.args.sink.now) (g.O.Sink.faults c.pieces.sink) (g.O.Sink.faults c.feed_piece.new.sink) c.pieces.invariant.sink in
     elim (c.in_err-feed_piece.ensures.publishes reads.line reads.is_at outside) [

@@ -9,7 +9,7 @@ pub returns-clause-told : goal.returns-clause-told
 returns-clause-told g c line is_at =
     let put = g.O.Sink.put c.args.sink.now in
     let now = g.O.Sink.put c.give_then.new.sink in
-    let start = standing c.args.self.now line in
+    let start = standing c.args.self line in
     let before = g.H.Shelf.files c.args.shelf.now in
     let after = g.H.Shelf.files c.finish-finished.new.shelf in
     let base : appended put c.args.kept.now.items ≡ put = ap (appended put) c.requires.none ∙ appended-nil put in

@@ -8,8 +8,8 @@ use Rattle.ebake.proofs.readers.Reader.finish.Goals as goal
 
 pub returns-then-is_empty-clause-told : goal.returns-then-is_empty-clause-told
 returns-then-is_empty-clause-told g c line held is_at =
-    let none : length c.args.self.now.line.items ≡ 0 = grind (arith, nat_tests) in
-    Closes-none (standing c.args.self.now line) (g.H.Shelf.files c.args.shelf.now) (appended held c.args.kept.now.items) (empty_at c.args.self.now line c.requires.ready is_at (empty_of_length c.args.self.now.line.items none))
+    let none : length c.args.self.line.items ≡ 0 = grind (arith, nat_tests) in
+    Closes-none (standing c.args.self line) (g.H.Shelf.files c.args.shelf.now) (appended held c.args.kept.now.items) (empty_at c.args.self line c.requires.ready is_at (empty_of_length c.args.self.line.items none))
 
 pub returns-in_err-answer-clause-told : goal.returns-in_err-answer-clause-told
 returns-in_err-answer-clause-told g c line held is_at =
@@ -17,10 +17,10 @@ returns-in_err-answer-clause-told g c line held is_at =
     let files = g.H.Shelf.files c.args.shelf.now in
     let now = g.H.Shelf.files c.answer.new.shelf in
     let kept = appended held c.args.kept.now.items in
-    rw (p.1, p.2, c.in_err-answer.ensures.err) (Finishes-stopped (Unit {0}) c.in_err-answer.field-0.0 (standing c.args.self.now line) files now kept kept c.in_err-answer.ensures.no_limit (IsCutLast-none (standing c.args.self.now line) files kept))
+    rw (p.1, p.2, c.in_err-answer.ensures.err) (Finishes-stopped (Unit {0}) c.in_err-answer.field-0.0 (standing c.args.self line) files now kept kept c.in_err-answer.ensures.no_limit (IsCutLast-none (standing c.args.self line) files kept))
 
 pub returns-clause-told : goal.returns-clause-told
 returns-clause-told g c line held is_at =
-    let some : 0 < length c.args.self.now.line.items = grind (arith, nat_tests) in
-    Closes-line c.args.self.now line c.answer.new.session (g.H.Shelf.files c.args.shelf.now) (g.H.Shelf.files c.answer.new.shelf) held c.args.kept.now.items c.answer.new.kept.items
+    let some : 0 < length c.args.self.line.items = grind (arith, nat_tests) in
+    Closes-line c.args.self line c.answer.new.session (g.H.Shelf.files c.args.shelf.now) (g.H.Shelf.files c.answer.new.shelf) held c.args.kept.now.items c.answer.new.kept.items
     c.requires.ready is_at some (rw c.as_slice.ensures.value at c.in_ok-answer.ensures.told)
