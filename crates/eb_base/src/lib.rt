@@ -29,6 +29,3 @@ pub use reserved::Reserved;
 pub use steps::Steps;
 pub use texts::Text;
 pub use words::is_name;
-
-#[cfg(test)]
-mod tests;

@@ -2,7 +2,7 @@
 use eb_base::{Items, Name, Place, TypeNo};
 
 /// Where a stored reference leads.
-#[derive(Clone, Copy, Debug, PartialEq, Eq)]
+#[derive(Clone, Copy)]
 pub enum Link {
     /// To an entity of the same section.
     Local(Name),
@@ -13,7 +13,7 @@ pub enum Link {
 }
 
 /// The value of one field.
-#[derive(Clone, Copy, Debug, PartialEq, Eq)]
+#[derive(Clone, Copy)]
 pub enum Stored {
     /// The value of a number field; of a fixed-point field in units of 1/65536.
     Num(i64),
@@ -22,7 +22,7 @@ pub enum Stored {
 }
 
 /// A component of an entity.
-#[derive(Debug, Drop)]
+#[derive(Drop)]
 pub struct StoredCell {
     /// Its type.
     pub kind: TypeNo,
@@ -31,7 +31,7 @@ pub struct StoredCell {
 }
 
 /// An entity with its components.
-#[derive(Debug, Drop)]
+#[derive(Drop)]
 pub struct ImageRow {
     /// Its name.
     pub name: Name,
@@ -40,7 +40,7 @@ pub struct ImageRow {
 }
 
 /// A section as it is stored.
-#[derive(Debug, Drop)]
+#[derive(Drop)]
 pub struct Image {
     /// The section's place.
     pub place: Place,

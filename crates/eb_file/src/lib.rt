@@ -7,6 +7,3 @@ pub mod writing;
 
 pub use images::{Image, ImageRow, Link, Stored, StoredCell};
 pub use writing::encode;
-
-#[cfg(test)]
-mod tests;

@@ -15,6 +15,3 @@ pub use forms::{Form, member, natural_in, object, pair, text, whole_number_in};
 pub use lists::{list_of, list_within, null_or};
 pub use members::has_keys;
 pub use places::{after, inside};
-
-#[cfg(test)]
-mod tests;

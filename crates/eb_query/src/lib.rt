@@ -2,11 +2,9 @@
 #![tactic(auto)]
 
 mod entities;
-mod lines;
+pub mod lines;
 mod listing;
 pub mod queries;
 
+pub use lines::{put_field, put_name, put_tag};
 pub use queries::{Query, QueryFault, the_empty_query_lists_all};
-
-#[cfg(test)]
-mod tests;

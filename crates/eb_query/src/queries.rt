@@ -18,7 +18,7 @@ use std::alloc::Global;
 use std::marker::Model;
 
 /// Why names make no query.
-#[derive(Clone, Copy, Debug, PartialEq, Eq)]
+#[derive(Clone, Copy)]
 pub enum QueryFault {
     /// There was no memory.
     Memory,
@@ -45,7 +45,7 @@ impl From<Memory> for QueryFault {
 }
 
 /// What entities are asked for by their types. Contracts see the numbers of the types.
-#[derive(Debug, Drop)]
+#[derive(Drop)]
 pub struct Query {
     all: Items<TypeNo>,
     any: Items<TypeNo>,

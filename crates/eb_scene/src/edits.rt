@@ -2,7 +2,7 @@
 use eb_base::{Items, Memory, Text};
 
 /// A value as an edit writes it, before it is known for which field.
-#[derive(Clone, Copy, Debug, PartialEq, Eq)]
+#[derive(Clone, Copy)]
 pub enum Raw {
     /// A whole number.
     Int(i64),
@@ -13,7 +13,7 @@ pub enum Raw {
 }
 
 /// A value for a field of this name.
-#[derive(Debug, Drop)]
+#[derive(Drop)]
 pub struct RawField {
     /// The field's name.
     pub name: Text,
@@ -22,7 +22,7 @@ pub struct RawField {
 }
 
 /// A change to a project. Of equal names in `fields` the first counts.
-#[derive(Debug, Drop)]
+#[derive(Drop)]
 pub enum Edit {
     /// Makes an empty scene.
     AddScene {

@@ -2,7 +2,7 @@
 use eb_base::AuthorNo;
 
 /// What is looked at: each key names one thing of a project, whether it is there or not.
-#[derive(Clone, Copy, Debug, PartialEq, Eq, PartialOrd, Ord)]
+#[derive(Clone, Copy, PartialEq, Eq)]
 pub enum Key {
     /// The values of a component of an object.
     Comp {

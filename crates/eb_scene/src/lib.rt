@@ -23,10 +23,3 @@ pub use edits::{Edit, EditFault, Raw, RawField};
 pub use keys::Key;
 pub use objects::{Given, Object, Part};
 pub use projects::Project;
-
-#[cfg(test)]
-mod test_project;
-#[cfg(test)]
-mod tests;
-#[cfg(test)]
-mod value_tests;

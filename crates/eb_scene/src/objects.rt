@@ -15,7 +15,7 @@ pub enum Given {
 }
 
 /// A component of an object.
-#[derive(Debug, Drop)]
+#[derive(Drop)]
 pub struct Part {
     /// Its authoring type.
     pub kind: AuthorNo,
@@ -24,7 +24,7 @@ pub struct Part {
 }
 
 /// An object of a scene.
-#[derive(Debug, Drop)]
+#[derive(Drop)]
 pub struct Object {
     /// Its number, different from those of the other objects of its scene.
     pub number: u32,

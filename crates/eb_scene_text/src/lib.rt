@@ -19,6 +19,3 @@ pub use edit_reading::edit_read;
 pub use faults::{ProjectFault, ReadFault};
 pub use project_printing::project_text;
 pub use project_reading::project_read;
-
-#[cfg(test)]
-mod tests;

@@ -3,7 +3,7 @@ ghost use Rattle.std.specs.Prelude.{◌≡◌};
 ghost use Rattle.eb_scene_text.specs.Words.{scene_word, value_word, word_of};
 
 /// What an edit's member `do` can say.
-#[derive(Clone, Copy, Debug, PartialEq, Eq)]
+#[derive(Clone, Copy)]
 pub enum Word {
     AddScene,
     RemoveScene,

@@ -7,3 +7,7 @@ pub mod RowLaws
 pub mod SoundFacts
 pub mod SchemaSound
 pub mod FoundTypes
+pub mod LayoutFacts
+pub mod SlotFacts
+pub mod ColumnOrder
+pub mod EntityMaps

@@ -6,3 +6,6 @@ pub mod SchemaTests
 pub mod TypeOrder
 pub mod Rows
 pub mod SoundSchemas
+pub mod Slots
+pub mod Layouts
+pub mod BakedEntities

@@ -33,7 +33,7 @@ pub enum Mode {
 }
 
 /// A field of a type, or of the assets.
-#[derive(Debug, Drop)]
+#[derive(Drop)]
 pub struct Field {
     /// A name, different from those of the other fields of its list.
     pub name: Text,
@@ -42,7 +42,7 @@ pub struct Field {
 }
 
 /// A component type: what an entity may have.
-#[derive(Debug, Drop)]
+#[derive(Drop)]
 pub struct Component {
     /// Its number, different from those of the other component types.
     pub number: TypeNo,
@@ -55,7 +55,7 @@ pub struct Component {
 }
 
 /// An authoring type: what an object of a project may have.
-#[derive(Debug, Drop)]
+#[derive(Drop)]
 pub struct Authoring {
     /// Its number, different from those of the other authoring types.
     pub number: AuthorNo,

@@ -19,7 +19,7 @@ pub fn types_are_found()
 /// The law that a cell that was put into a row is found by its type, that all other cells stay, and that a row
 /// has the types of its cells.
 pub fn rows_hold_their_cells()
-    ensures put { (row : List Cell) (cell : Cell) (kind : ℕ) → cell_of (with_cell row cell) kind ≡ cond (cell.kind == kind) (Some cell) (cell_of row kind) }
+    ensures put { (row : List Cell) (c : Cell) (kind : ℕ) → cell_of (with_cell row c) kind ≡ cond (c.kind == kind) (Some c) (cell_of row kind) }
     ensures types { (row : List Cell) (kind : ℕ) → list_any (λ k. k == kind) (kinds_of row) ≡ is_some (cell_of row kind) }
 {}
 

@@ -3,31 +3,29 @@
 #![tactic(auto)]
 
 mod authoring_drafts;
+pub mod baked;
 mod copies;
 mod drafts;
 pub mod faults;
 pub mod kinds;
 pub mod laws;
+pub mod layouts;
 mod making;
 mod reading;
 pub mod rows;
 pub mod schemas;
+pub mod slots;
 mod tables;
 mod testing;
-mod type_order;
+pub mod type_order;
 pub mod type_sets;
 
+pub use baked::{Baked, BakedEntity};
 pub use faults::SchemaFault;
 pub use kinds::{Authoring, Component, Field, Kind, Mode};
+pub use layouts::{Column, Layout};
 pub use rows::{Cell, MOST_KINDS, Row, Val};
 pub use schemas::Schema;
+pub use slots::{Slot, get_entity, get_name, get_slot, put_entity, put_name, put_slot};
+pub use type_order::{Typed, place};
 pub use type_sets::{TypeSet, TypeSetFault};
-
-#[cfg(test)]
-mod fixture;
-#[cfg(test)]
-mod refusal_tests;
-#[cfg(test)]
-mod row_tests;
-#[cfg(test)]
-mod tests;

@@ -28,7 +28,7 @@ pub enum Val {
 }
 
 /// What an entity has of one component type.
-#[derive(Debug, Drop)]
+#[derive(Drop)]
 pub struct Cell {
     /// The component type.
     pub kind: TypeNo,
@@ -37,7 +37,7 @@ pub struct Cell {
 }
 
 /// What one entity has: at most 32 cells, in ascending order of their types. Contracts see the list of the cells.
-#[derive(Debug, Drop)]
+#[derive(Drop)]
 pub struct Row {
     cells: Items<Cell>,
 }

@@ -30,7 +30,7 @@ impl From<Memory> for TypeSetFault {
 }
 
 /// At most 32 component types. Contracts see the list of their numbers, in ascending order.
-#[derive(Debug, Drop)]
+#[derive(Drop)]
 pub struct TypeSet {
     kinds: Items<TypeNo>,
 }

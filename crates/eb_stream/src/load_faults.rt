@@ -5,7 +5,7 @@ use eb_base::Memory;
 use std::alloc::AllocError;
 
 /// Why a section isn't loaded. The entities of the world are then as they were.
-#[derive(Clone, Copy, Debug, PartialEq, Eq)]
+#[derive(Clone, Copy)]
 pub enum LoadFault {
     /// Want of memory.
     Memory,

@@ -8,4 +8,3 @@ pub mod Shown
 pub mod Dropping
 pub mod Soundness
 pub mod Seats
-pub mod TestFacts

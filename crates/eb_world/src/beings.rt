@@ -14,7 +14,7 @@ use eb_schema::{Cell, Row, Schema, TypeSet, Val};
 use slab::Slab;
 
 /// What is kept of the value of a field.
-#[derive(Clone, Copy, Debug, PartialEq, Eq)]
+#[derive(Clone, Copy)]
 pub enum Held {
     /// A number.
     Num(i64),
@@ -25,7 +25,7 @@ pub enum Held {
 }
 
 /// A live entity.
-#[derive(Debug, Drop)]
+#[derive(Drop)]
 pub struct Being {
     /// Its handle.
     pub entity: Entity,
@@ -38,7 +38,7 @@ pub struct Being {
 }
 
 /// The memory of an entity to come.
-#[derive(Debug, Drop)]
+#[derive(Drop)]
 pub struct Blank {
     /// Its types, ascending.
     pub kinds: TypeSet,

@@ -8,6 +8,3 @@ mod spares;
 mod worlds;
 
 pub use worlds::World;
-
-#[cfg(test)]
-mod tests;
