@@ -1,0 +1,2 @@
+-- What the recorder of the tests records.
+pub mod Notes
