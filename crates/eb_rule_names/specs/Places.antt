@@ -1,10 +1,6 @@
 -- A map from each name to the place of the first that has it.
 use Rattle.std.specs.Prelude.{◌≡◌, ℕ, ◌==◌, cond, List, Option, Some, None, bytes_eq, Vec}
-use Rattle.std.specs.Ordering.{nat_cmp}
-use Rattle.std.specs.List.{position_from}
-use Rattle.std.specs.BTreeMap.{BTreeMap, get_by}
-use Rattle.std.specs.declared.alloc.Global.{Global}
-use Rattle.std.specs.Cmp.Lexicographic.{slice_cmp}
+use Rattle.std.specs.{Ordering.nat_cmp, List.position_from, BTreeMap.BTreeMap, BTreeMap.get_by, Cmp.Lexicographic.slice_cmp, declared.alloc.Global.Global}
 
 -- what a map has under a name
 abbrev pub under_name : BTreeMap (Vec ℕ Global) ℕ → List ℕ → Option ℕ

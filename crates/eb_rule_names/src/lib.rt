@@ -7,6 +7,3 @@ pub mod visible;
 
 pub use named::Named;
 pub use visible::VisibleNames;
-
-#[cfg(test)]
-mod tests;

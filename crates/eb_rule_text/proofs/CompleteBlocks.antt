@@ -79,7 +79,7 @@ add_step context d i j kind values h = rw h refl
 add_is : {context : Context} {d : ℕ} {i j : Input} {x : Add} → IsAdd context d i x j → spec.add context d i ≡ Ok (x, j)
 add_is {context = context} {d = d} {j = j} (added {i = i} {kind = kind} {values = values} are) = add_step context d i j kind values (inits_are are)
 
-add_takes : {context : Context} {d : ℕ} {i j : Input} {x : Add} → IsAdd context d i x j → length j < length i
+pub add_takes : {context : Context} {d : ℕ} {i j : Input} {x : Add} → IsAdd context d i x j → length j < length i
 add_takes (added are) = let a = inits_take are in omega arith
 
 add_begins : {context : Context} {d : ℕ} {i j : Input} {x : Add} → IsAdd context d i x j → (sees m.RBrace i ≡ false) × (sees m.Else i ≡ false)
@@ -107,7 +107,7 @@ adds_are {context = context} {d = d} {i = i} {j = j} {x = x} are = let a = end_a
 -- ---- statements
 
 mutual
-  stmt_takes : {context : Context} {d : ℕ} {i j : Input} {x : Stmt} → IsStmt context d i x j → length j < length i
+  pub stmt_takes : {context : Context} {d : ℕ} {i j : Input} {x : Stmt} → IsStmt context d i x j → length j < length i
   stmt_takes (a_let is) = let a = level_takes is in omega arith
   stmt_takes (an_add is) = add_takes is
   stmt_takes (an_extra are) = let a = end_adds_take are in omega arith

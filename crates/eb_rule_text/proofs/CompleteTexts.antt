@@ -116,7 +116,7 @@ rule_is {j = j} (a_baker {i = i} {n = number} {kind = kind} {body = body} are) =
 rule_is {j = j} (a_system {i = i} {k = k} {n = number} {asked = asked} {body = body} is are) =
     system_step i (l.Mark m.LBrace ∷ k) j number asked body (query_is is (brace_follows k)) (block_are are)
 
-rule_takes : {i j : Input} {x : Rule} → IsRule i x j → length j < length i
+pub rule_takes : {i j : Input} {x : Rule} → IsRule i x j → length j < length i
 rule_takes (a_baker are) = let a = end_stmts_take are in omega arith
 rule_takes (a_system is are) = let a = query_takes is in let b = end_stmts_take are in omega arith
 
@@ -194,7 +194,7 @@ command_is {d = d} {j = j} (removed {on = on} {kind = kind} {i = i} is) = remove
 command_is {d = d} {j = j} (added_to {on = on} {kind = kind} {values = values} {i = i} {k = k} is are) = add_to_step d i k j on kind values (target_is is) (inits_are are)
 command_is {d = d} {j = j} (set_to {on = on} {kind = kind} {values = values} {i = i} {k = k} is are) = set_on_step d i k j on kind values (target_is is) (inits_are are)
 
-command_takes : {d : ℕ} {i j : Input} {x : Command} → IsCommand d i x j → length j < length i
+pub command_takes : {d : ℕ} {i j : Input} {x : Command} → IsCommand d i x j → length j < length i
 command_takes created = omega arith
 command_takes (destroyed is) = let a = target_takes is in omega arith
 command_takes (removed is) = let a = target_takes is in omega arith

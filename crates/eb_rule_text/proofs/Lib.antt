@@ -1,8 +1,16 @@
+pub mod Counted
+mod Atoms
 mod CompleteBlocks
 mod CompleteExprs
 mod CompleteFinds
 mod CompleteTexts
+mod FirstBytes
+mod FrontLists
+mod FrontReads
+mod FrontTexts
+mod Fronts
 mod Levels
+mod LongestTokens
 mod NameRuns
 mod SoundBlocks
 mod SoundExprs
@@ -19,4 +27,5 @@ mod SpelledTokens
 mod Printed
 mod PrintedTexts
 pub mod ReadsBack
+mod Refused
 mod Reserved

@@ -11,7 +11,7 @@ use Rattle.eb_rule_text.specs.declared.trees.Add.{Add}
 use Rattle.eb_rule_text.specs.declared.trees.Stmt.{Stmt}
 use Rattle.eb_rule_text.specs.declared.trees.Stmt.TheVariants as s
 use Rattle.eb_rule_text.specs.Tokens.{Text}
-use Rattle.eb_rule_text.specs.Input.{Input, Parser, and_then, ◌>>◌, pure, refuse, mark, expect, eat, until_brace}
+use Rattle.eb_rule_text.specs.Input.{Input, Parser, go_on, ◌>>◌, pure, refuse, mark, expect, eat, until_brace}
 use Rattle.eb_rule_text.specs.Blocks as spec
 use Rattle.eb_rule_text.specs.Grammar.{IsExpr, EndInits, last_init, one_init, AreInits, no_init, some_init, IsAdd, added, EndAdds, no_add, one_add, IsStmt, a_let, an_add, an_extra, an_if, an_else, EndStmts, no_stmt, one_stmt}
 use Rattle.eb_rule_text.proofs.Steps.{went, ok_value, ok_rest, expected, opened, named, taken, left}
@@ -46,7 +46,7 @@ onward P i k n j done x y same is rest =
     record { more = y ∷ rest.more; whole = rest.whole ∙ append_assoc done (y ∷ []) rest.more; are = rw same (one_more is rest.are) }
 
 turn_where : {A : Type 0} (P : Input → A → Input → Type 0) (p : Parser A) (turns : ℕ) → Sound P p → Turned P p turns → (i k j : Input) (done x : List A) (b : Bool) → eat m.RBrace i ≡ Ok (b, k)
-    → (if b then pure done else (λ n. and_then (p n) (λ y. until_brace p turns (done ++ y ∷ [])))) k ≡ Ok (x, j) → Ended P i done x j
+    → (if b then pure done else (λ n. go_on (p n) (λ y. until_brace p turns (done ++ y ∷ [])))) k ≡ Ok (x, j) → Ended P i done x j
 unfolding Sound Turned
 turn_where P p turns is more i k j done x true e h = closing P i k j done x (taken _ _ _ e) h
 turn_where P p turns is more i k j done x false e h =

@@ -8,7 +8,7 @@ use Rattle.eb_rule_text.specs.declared.trees.Op.{Op}
 use Rattle.eb_rule_text.specs.declared.trees.Link.{Link}
 use Rattle.eb_rule_text.specs.declared.trees.Expr.{Expr}
 use Rattle.eb_rule_text.specs.declared.trees.Expr.TheVariants as e
-use Rattle.eb_rule_text.specs.Input.{Input, Parser, and_then, ◌<$>◌, pure, refuse, mark}
+use Rattle.eb_rule_text.specs.Input.{Input, Parser, go_on, ◌into◌, pure, refuse, mark}
 use Rattle.eb_rule_text.specs.Reading.{op_at, when, link_of, chain, found_of, turns_of, links, links_from, level, enclosed, marked, marked_by, atom, prim, under, signed, signed_by, unary, expression, read}
 use Rattle.eb_rule_text.specs.Grammar.{IsLevel, AreLinks, IsUnary, IsAtom, IsExpr, tightest, chained, no_link, a_link, negated, inverted, plain, an_int, a_fix, a_name, a_true, a_false, a_null, in_parens, to_fix, to_int, a_read}
 use Rattle.eb_rule_text.proofs.Steps.{went, ok_value, ok_rest, expected, opened}
@@ -19,7 +19,7 @@ use Rattle.eb_rule_text.proofs.SoundReads.{read_sound}
 pub Unary : Context → ℕ → Parser Expr → Type 0
 Unary context d p = (i j : Input) (x : Expr) → p i ≡ Ok (x, j) → IsUnary context d i x j
 
-pub Level : Context → ℕ → ℕ → Parser Expr → Type 0
+unfoldable pub Level : Context → ℕ → ℕ → Parser Expr → Type 0
 Level context n d p = (i j : Input) (x : Expr) → p i ≡ Ok (x, j) → IsLevel context n d i x j
 
 -- the same one level deeper
@@ -53,7 +53,7 @@ unfolding_few n turns few is = let e = few is in omega arith
 
 links_where : (context : Context) (n d turns : ℕ) (operand : Parser Expr) → Level context n d operand → LinkedAll context n d turns operand
     → (k : Mark) (i j : Input) (done x : List (Link Expr)) → (n ≡ 2 → suc turns ≤ 1) → (o : Option Op) → op_at n (Some k) ≡ o
-    → when o (λ p. and_then (operand i) (λ y. links_from operand n turns (done ++ link_of p y ∷ []))) (Ok (done, l.Mark k ∷ i)) ≡ Ok (x, j)
+    → when o (λ p. go_on (operand i) (λ y. links_from operand n turns (done ++ link_of p y ∷ []))) (Ok (done, l.Mark k ∷ i)) ≡ Ok (x, j)
     → Linked context n d (suc turns) (l.Mark k ∷ i) done x j
 unfolding Level LinkedAll
 links_where context n d turns operand is onward k i j done x few None e h = stopped context n d (suc turns) (l.Mark k ∷ i) j done x h
@@ -149,7 +149,7 @@ word_moved context d k i j n x y is first h = rw (first, ← ok_value h, ← ok_
 atom_moved : (context : Context) (d : ℕ) (i j k : Input) (x y : Expr) → IsAtom context d i y k → pure y k ≡ Ok (x, j) → IsAtom context d i x j
 atom_moved context d i j k x y is h = rw (← ok_value h, ← ok_rest h) is
 
-read_moved : (context : Context) (d : ℕ) (i j : Input) (x : Expr) → (e.Read <$> read context d) i ≡ Ok (x, j) → IsAtom context d i x j
+read_moved : (context : Context) (d : ℕ) (i j : Input) (x : Expr) → (read context d into e.Read) i ≡ Ok (x, j) → IsAtom context d i x j
 read_moved context d i j x h =
     let a = went _ _ x j h in
     atom_moved context d i j a.rest x (e.Read a.value) (a_read (read_sound context d i a.rest a.value a.first)) a.onward

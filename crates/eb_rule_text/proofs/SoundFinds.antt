@@ -10,7 +10,7 @@ use Rattle.eb_rule_text.specs.declared.trees.Find.{Find}
 use Rattle.eb_rule_text.specs.declared.trees.Find.TheVariants as f
 use Rattle.eb_rule_text.specs.declared.trees.Reach.{Reach}
 use Rattle.eb_rule_text.specs.Tokens.{Text}
-use Rattle.eb_rule_text.specs.Input.{Input, and_then, pure, mark}
+use Rattle.eb_rule_text.specs.Input.{Input, go_on, pure, mark}
 use Rattle.eb_rule_text.specs.Reading as spec
 use Rattle.eb_rule_text.specs.Spelled.{path_then, kind_then, member_then, path_in_then, link_in_then, field_in_then, reach_mark, find_then, has_find}
 use Rattle.eb_rule_text.specs.Grammar.{IsFind, AreFinds, no_find, a_find}
@@ -249,7 +249,7 @@ abbrev Onward : Context → ℕ → ℕ → Type 0
 Onward context d n = (i j : Input) (done x : List Find) → spec.finds_from context d n done i ≡ Ok (x, j) → Goes context d i done x j
 
 finds_where : (context : Context) (d n : ℕ) (i j : Input) (done x : List Find) → Onward context d n → (b : Bool)
-    → (if b then and_then (spec.find context d i) (λ y. spec.finds_from context d n (done ++ y ∷ [])) else Ok (done, i)) ≡ Ok (x, j) → Goes context d i done x j
+    → (if b then go_on (spec.find context d i) (λ y. spec.finds_from context d n (done ++ y ∷ [])) else Ok (done, i)) ≡ Ok (x, j) → Goes context d i done x j
 finds_where context d n i j done x onward false h = stopped context d i j done x h
 finds_where context d n i j done x onward true h =
     let a = went _ _ x j h in

@@ -18,7 +18,7 @@ use Rattle.eb_rule_text.specs.declared.trees.Command.{Command}
 use Rattle.eb_rule_text.specs.declared.trees.Command.TheVariants as a_command
 use Rattle.eb_rule_text.specs.declared.trees.JobTree.{JobTree}
 use Rattle.eb_rule_text.specs.Tokens.{Text}
-use Rattle.eb_rule_text.specs.Input.{Input, and_then, pure, mark, eat}
+use Rattle.eb_rule_text.specs.Input.{Input, go_on, pure, mark, eat}
 use Rattle.eb_rule_text.specs.Blocks as spec
 use Rattle.eb_rule_text.specs.Spelled.{link_in_then}
 use Rattle.eb_rule_text.specs.Grammar.{IsExpr, AreInits, EndStmts, AreNames, no_name, one_name, IsList, unwritten, written, IsQuery, queried, IsRule, a_baker, a_system, AreRules, no_rule, one_rule, IsRules, IsTarget, at_this, at_name, at_link, IsCommand, created, destroyed, removed, added_to, set_to, EndCommands, no_command, one_command, IsJob, a_job}
@@ -112,7 +112,7 @@ rule_by_sound (Some m.Baker) i j x h = baker_sound i j x h
 rule_by_sound (Some m.System) i j x h = system_sound i j x h
 rule_by_sound _ i j x h = absurd (search rules)
 
-rule_sound : (i j : Input) (x : Rule) → spec.rule i ≡ Ok (x, j) → IsRule i x j
+pub rule_sound : (i j : Input) (x : Rule) → spec.rule i ≡ Ok (x, j) → IsRule i x j
 unfolding spec.rule
 rule_sound i j x h = rule_by_sound (mark i) i j x h
 
@@ -127,7 +127,7 @@ RulesAll turns = (i j : Input) (done x : List Rule) → spec.rules_from turns do
 no_rules : (i j : Input) (done x : List Rule) → pure done i ≡ Ok (x, j) → j ≡ [] → Rules i done x
 no_rules i j done x h e = record { more = []; whole = sym (ok_value h) ∙ sym (append-nil done); are = rw (ok_rest h, e) no_rule }
 
-rules_where : (turns : ℕ) → RulesAll turns → (i j : Input) (done x : List Rule) (b : Bool) → (if b then Ok (done, i) else and_then (spec.rule i) (λ y. spec.rules_from turns (done ++ y ∷ []))) ≡ Ok (x, j) → j ≡ [] → Rules i done x
+rules_where : (turns : ℕ) → RulesAll turns → (i j : Input) (done x : List Rule) (b : Bool) → (if b then Ok (done, i) else go_on (spec.rule i) (λ y. spec.rules_from turns (done ++ y ∷ []))) ≡ Ok (x, j) → j ≡ [] → Rules i done x
 unfolding RulesAll
 rules_where turns more i j done x true h e = no_rules i j done x h e
 rules_where turns more i j done x false h e =
@@ -253,7 +253,7 @@ command_by_sound d (Some m.Add) i j x h = add_to_sound d i j x h
 command_by_sound d (Some m.Set) i j x h = set_on_sound d i j x h
 command_by_sound d _ i j x h = absurd (search rules)
 
-command_sound : (d : ℕ) → Sound (IsCommand d) (spec.command d)
+pub command_sound : (d : ℕ) → Sound (IsCommand d) (spec.command d)
 unfolding Sound spec.command
 command_sound d i j x h = command_by_sound d (mark i) i j x h
 

@@ -6,7 +6,7 @@ use Rattle.eb_rule_text.specs.declared.errors.ReadError.TheVariants.{Depth}
 use Rattle.eb_rule_text.specs.declared.lexemes.Lexeme.TheVariants as l
 use Rattle.eb_rule_text.specs.declared.marks.Mark.{Mark}
 use Rattle.eb_rule_text.specs.Tokens.{Text}
-use Rattle.eb_rule_text.specs.Input.{Input, Outcome, Parser, and_then, pure, refuse, same_mark, sees, expect, eat, opens, name, int, end}
+use Rattle.eb_rule_text.specs.Input.{Input, Outcome, Parser, go_on, pure, refuse, same_mark, sees, expect, eat, opens, name, int, end}
 
 -- both halves of two steps that went well
 pub record Went {A B : Type 0} (r : Outcome A) (f : A → Parser B) (b : B) (j : Input) : Type 0 where
@@ -15,7 +15,7 @@ pub record Went {A B : Type 0} (r : Outcome A) (f : A → Parser B) (b : B) (j :
   pub first : r ≡ Ok (value, rest)
   pub onward : f value rest ≡ Ok (b, j)
 
-pub went : {A B : Type 0} (r : Outcome A) (f : A → Parser B) (b : B) (j : Input) → and_then r f ≡ Ok (b, j) → Went r f b j
+pub went : {A B : Type 0} (r : Outcome A) (f : A → Parser B) (b : B) (j : Input) → go_on r f ≡ Ok (b, j) → Went r f b j
 went (Ok p) f b j h = record { value = p.0; rest = p.1; first = refl; onward = h }
 went (Err e) f b j h = absurd (search rules)
 

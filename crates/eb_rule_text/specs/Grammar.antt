@@ -1,33 +1,18 @@
 -- The grammar, apart from the reader: between a list of tokens and the tokens behind stands what was read. A number `d` says how
 -- many levels may still be opened.
 use Rattle.std.specs.Prelude.{◌≡◌, ◌≤◌, ◌<◌, ℕ, zero, suc, ℤ, true, List, [], ◌∷◌, Some, None}
-use Rattle.eb_rule_text.specs.declared.lexemes.Lexeme.TheVariants as l
+use Rattle.eb_rule_text.specs.declared.trees.{Context.Context, FieldPath.FieldPath, Find.Find, Read.Read, Op.Op, Link.Link, Expr.Expr, Init.Init, Add.Add}
+use Rattle.eb_rule_text.specs.declared.trees.{Stmt.Stmt, Query.Query, Rule.Rule, RulesTree.RulesTree, Target.Target, Command.Command, JobTree.JobTree}
 use Rattle.eb_rule_text.specs.declared.marks.Mark.{Mark}
+use Rattle.eb_rule_text.specs.declared.lexemes.Lexeme.TheVariants as l
 use Rattle.eb_rule_text.specs.declared.marks.Mark.TheVariants as m
-use Rattle.eb_rule_text.specs.declared.trees.Context.{Context}
 use Rattle.eb_rule_text.specs.declared.trees.Context.TheVariants as c
-use Rattle.eb_rule_text.specs.declared.trees.FieldPath.{FieldPath}
-use Rattle.eb_rule_text.specs.declared.trees.Find.{Find}
-use Rattle.eb_rule_text.specs.declared.trees.Read.{Read}
-use Rattle.eb_rule_text.specs.declared.trees.Op.{Op}
-use Rattle.eb_rule_text.specs.declared.trees.Link.{Link}
-use Rattle.eb_rule_text.specs.declared.trees.Expr.{Expr}
 use Rattle.eb_rule_text.specs.declared.trees.Expr.TheVariants as e
-use Rattle.eb_rule_text.specs.declared.trees.Init.{Init}
-use Rattle.eb_rule_text.specs.declared.trees.Add.{Add}
-use Rattle.eb_rule_text.specs.declared.trees.Stmt.{Stmt}
 use Rattle.eb_rule_text.specs.declared.trees.Stmt.TheVariants as s
-use Rattle.eb_rule_text.specs.declared.trees.Query.{Query}
-use Rattle.eb_rule_text.specs.declared.trees.Rule.{Rule}
 use Rattle.eb_rule_text.specs.declared.trees.Rule.TheVariants as a_rule
-use Rattle.eb_rule_text.specs.declared.trees.RulesTree.{RulesTree}
-use Rattle.eb_rule_text.specs.declared.trees.Target.{Target}
 use Rattle.eb_rule_text.specs.declared.trees.Target.TheVariants as a_target
-use Rattle.eb_rule_text.specs.declared.trees.Command.{Command}
 use Rattle.eb_rule_text.specs.declared.trees.Command.TheVariants as a_command
-use Rattle.eb_rule_text.specs.declared.trees.JobTree.{JobTree}
-use Rattle.eb_rule_text.specs.Tokens.{Text}
-use Rattle.eb_rule_text.specs.Input.{Input}
+use Rattle.eb_rule_text.specs.{Tokens.Text, Input.Input}
 use Rattle.eb_rule_text.specs.Reading.{op_at, link_of, chain, found_of}
 use Rattle.eb_rule_text.specs.Blocks.{init_of, add_of, query_of, baker_of, system_of, job_of}
 use Rattle.eb_rule_text.specs.Spelled.{find_then, has_find, read_then, has_read, read_levels, link_in_then}

@@ -1,14 +1,12 @@
 -- What a reader reads from, and the steps that every line of the grammar is made of.
 use Rattle.std.specs.Prelude.{◌≡◌, ◌≢◌, ℕ, zero, suc, Bool, true, false, if◌then◌else◌, ◌==◌, List, [], ◌∷◌, ◌++◌, length, drop, Option, Some, None, Result, Ok, Err, ℤ}
 use denote.Enum.Bare.{sameb}
-use Rattle.eb_rule_text.specs.contracts.marks.Mark.{the_type}
-use Rattle.eb_rule_text.specs.declared.errors.ReadError.{ReadError}
 use Rattle.eb_rule_text.specs.declared.errors.ReadError.TheVariants.{Memory, Syntax, Depth}
-use Rattle.eb_rule_text.specs.declared.lexemes.Lexeme.{Lexeme}
+use Rattle.eb_rule_text.specs.declared.errors.ReadError.{ReadError}
+use Rattle.eb_rule_text.specs.declared.{lexemes.Lexeme.Lexeme, marks.Mark.Mark}
 use Rattle.eb_rule_text.specs.declared.lexemes.Lexeme.TheVariants as l
-use Rattle.eb_rule_text.specs.declared.marks.Mark.{Mark}
 use Rattle.eb_rule_text.specs.declared.marks.Mark.TheVariants as m
-use Rattle.eb_rule_text.specs.Tokens.{Text}
+use Rattle.eb_rule_text.specs.{contracts.marks.Mark.the_type, Tokens.Text}
 
 -- the tokens from the next one on
 abbrev pub Input : Type 0
@@ -21,39 +19,39 @@ Outcome A = Result (A × Input) ReadError
 abbrev pub Parser : Type 0 → Type 0
 Parser A = Input → Outcome A
 
-abbrev pub and_then : {A B : Type 0} → Outcome A → (A → Parser B) → Outcome B
-and_then (Ok p) f = f p.0 p.1
-and_then (Err e) f = Err e
+-- the next token can't follow
+abbrev pub refuse : {A : Type 0} → Parser A
+refuse i = Err (Syntax (length i))
 
+-- takes no token
+abbrev pub pure : {A : Type 0} → A → Parser A
+pure x i = Ok (x, i)
+
+-- What was read says how the tokens behind it are read. Behind a refusal nothing is.
+abbrev pub go_on : {A B : Type 0} → Outcome A → (A → Parser B) → Outcome B
+go_on (Err refusal) next = Err refusal
+go_on (Ok read) next = next read.0 read.1
+
+-- one thing and then another, in the lines of `do`
 infixl 10 ◌>>=◌
 abbrev pub ◌>>=◌ : {A B : Type 0} → Parser A → (A → Parser B) → Parser B
-p >>= f = λ i. and_then (p i) f
+first >>= next = λ i. go_on (first i) next
 
 infixl 10 ◌>>◌
 abbrev pub ◌>>◌ : {A B : Type 0} → Parser A → Parser B → Parser B
-p >> q = p >>= (λ _. q)
+first >> second = λ i. go_on (first i) (λ read. second)
 
-abbrev pub pure : {A : Type 0} → A → Parser A
-pure a = λ i. Ok (a, i)
-
-infixr 11 ◌<$>◌
-abbrev pub ◌<$>◌ : {A B : Type 0} → (A → B) → Parser A → Parser B
-f <$> p = p >>= (λ x. pure (f x))
-
--- the next token can't follow
-abbrev pub refuse : {A : Type 0} → Parser A
-refuse = λ i. Err (Syntax (length i))
+-- what was read, as a part of a tree
+infixl 11 ◌into◌
+abbrev pub ◌into◌ : {A B : Type 0} → Parser A → (A → B) → Parser B
+part into whole = λ i. go_on (part i) (λ read. pure (whole read))
 
 -- ---- one token
 
 -- the reserved word or sign that comes next
 abbrev pub mark : Input → Option Mark
-mark [] = None
 mark (l.Mark k ∷ i) = Some k
-mark (l.Name x ∷ i) = None
-mark (l.Underscored ∷ i) = None
-mark (l.Int n ∷ i) = None
-mark (l.Fix n ∷ i) = None
+mark _ = None
 
 -- `==` on marks
 unfoldable pub same_mark : Mark → Mark → Bool
@@ -78,34 +76,22 @@ unfoldable pub opens : ℕ → Mark → Parser (Unit {0})
 opens depth k = λ i. if depth == 0 then (if sees k i then Err (Depth (length i)) else refuse i) else expect k i
 
 unfoldable pub name : Parser Text
-name [] = refuse []
-name (l.Mark k ∷ i) = refuse (l.Mark k ∷ i)
 name (l.Name x ∷ i) = Ok (x, i)
-name (l.Underscored ∷ i) = refuse (l.Underscored ∷ i)
-name (l.Int n ∷ i) = refuse (l.Int n ∷ i)
-name (l.Fix n ∷ i) = refuse (l.Fix n ∷ i)
+name i = refuse i
 
 -- whether a name comes next
 abbrev pub sees_name : Input → Bool
-sees_name [] = false
-sees_name (l.Mark k ∷ i) = false
 sees_name (l.Name x ∷ i) = true
-sees_name (l.Underscored ∷ i) = false
-sees_name (l.Int n ∷ i) = false
-sees_name (l.Fix n ∷ i) = false
+sees_name _ = false
 
 unfoldable pub int : Parser ℤ
-int [] = refuse []
-int (l.Mark k ∷ i) = refuse (l.Mark k ∷ i)
-int (l.Name x ∷ i) = refuse (l.Name x ∷ i)
-int (l.Underscored ∷ i) = refuse (l.Underscored ∷ i)
 int (l.Int n ∷ i) = Ok (n, i)
-int (l.Fix n ∷ i) = refuse (l.Fix n ∷ i)
+int i = refuse i
 
 -- nothing comes any more
 unfoldable pub end : Parser (Unit {0})
 end [] = Ok (tt, [])
-end (x ∷ i) = refuse (x ∷ i)
+end i = refuse i
 
 -- ---- lists in braces. The number bounds the turns, and each turn takes a token
 
@@ -120,3 +106,8 @@ until_brace item (suc n) done = do
 abbrev pub Reads : {A : Type 0} → Outcome A → Result A ReadError → Input → Type 0
 Reads outcome (Ok a) new = outcome ≡ Ok (a, new)
 Reads outcome (Err e) new = e ≢ Memory → outcome ≡ Err e
+
+-- what was read behind something that was kept
+abbrev pub behind : {A B : Type 0} → Result (A × B) ReadError → Result B ReadError
+behind (Ok both) = Ok both.1
+behind (Err refusal) = Err refusal

@@ -5,6 +5,9 @@ pub mod Reading
 pub mod Blocks
 pub mod Spelled
 pub mod Grammar
+pub mod Counts
+pub mod Refusing
 pub mod Spelling
 pub mod Printing
 pub mod Passes
+pub mod OneToken

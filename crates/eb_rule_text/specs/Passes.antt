@@ -1,14 +1,12 @@
 -- The two passes over a text, and the byte of a refusal.
 use Rattle.std.specs.Prelude.{◌≡◌, ◌≢◌, ℕ, ◌-◌, ◌||◌, if◌then◌else◌, ◌==◌, nat_lt, List, length, slice_index, Result, Ok, Err}
-use Rattle.eb_rule_text.specs.declared.errors.ReadError.{ReadError}
-use Rattle.eb_rule_text.specs.declared.errors.ReadError.TheVariants as read
-use Rattle.eb_rule_text.specs.declared.errors.TextError.{TextError}
 use Rattle.eb_rule_text.specs.declared.errors.TextError.TheVariants.{Memory, Token, Syntax, Depth}
+use Rattle.eb_rule_text.specs.declared.errors.{ReadError.ReadError, TextError.TextError}
 use Rattle.eb_rule_text.specs.declared.errors.TokenError.{TokenError}
-use Rattle.eb_rule_text.specs.declared.errors.TokenError.TheVariants as token
 use Rattle.eb_rule_text.specs.declared.passes.Placed.{Placed}
-use Rattle.eb_rule_text.specs.Input.{Input, Outcome, Parser}
-use Rattle.eb_rule_text.specs.Tokens.{Text, Lexes, tokens}
+use Rattle.eb_rule_text.specs.declared.errors.ReadError.TheVariants as read
+use Rattle.eb_rule_text.specs.declared.errors.TokenError.TheVariants as token
+use Rattle.eb_rule_text.specs.{Input.Input, Input.Outcome, Input.Parser, Tokens.Text, Tokens.Lexes, Tokens.tokens}
 
 -- where the token begins that so many tokens are left from; with none left it is the end of the text
 abbrev pub byte_of : List ℕ → ℕ → ℕ → ℕ

@@ -1,35 +1,16 @@
 -- The text that a tree is printed as.
 use Rattle.std.specs.Prelude.{List, [], ◌∷◌, ◌++◌, Option, Some, None}
-use Rattle.eb_rule_text.specs.declared.lexemes.Lexeme.TheVariants as l
+use Rattle.eb_rule_text.specs.declared.trees.{Find.Find, Read.Read, Op.Op, Link.Link, Expr.Expr, Expr.TheOpen.Expr-F, Expr.TheFolds.fold-Expr, Init.Init}
+use Rattle.eb_rule_text.specs.declared.trees.{Add.Add, Stmt.Stmt, Stmt.TheOpen.Stmt-F, Stmt.TheFolds.fold-Stmt, Query.Query, Baker.Baker, System.System}
+use Rattle.eb_rule_text.specs.declared.trees.{Rule.Rule, RulesTree.RulesTree, Target.Target, Command.Command, JobTree.JobTree}
 use Rattle.eb_rule_text.specs.declared.marks.Mark.{Mark}
+use Rattle.eb_rule_text.specs.declared.lexemes.Lexeme.TheVariants as l
 use Rattle.eb_rule_text.specs.declared.marks.Mark.TheVariants as m
-use Rattle.eb_rule_text.specs.declared.trees.Find.{Find}
-use Rattle.eb_rule_text.specs.declared.trees.Read.{Read}
-use Rattle.eb_rule_text.specs.declared.trees.Op.{Op}
 use Rattle.eb_rule_text.specs.declared.trees.Op.TheVariants as op
-use Rattle.eb_rule_text.specs.declared.trees.Link.{Link}
-use Rattle.eb_rule_text.specs.declared.trees.Expr.{Expr}
-use Rattle.eb_rule_text.specs.declared.trees.Expr.TheOpen.{Expr-F}
-use Rattle.eb_rule_text.specs.declared.trees.Expr.TheFolds.{fold-Expr}
-use Rattle.eb_rule_text.specs.declared.trees.Init.{Init}
-use Rattle.eb_rule_text.specs.declared.trees.Add.{Add}
-use Rattle.eb_rule_text.specs.declared.trees.Stmt.{Stmt}
-use Rattle.eb_rule_text.specs.declared.trees.Stmt.TheOpen.{Stmt-F}
-use Rattle.eb_rule_text.specs.declared.trees.Stmt.TheFolds.{fold-Stmt}
-use Rattle.eb_rule_text.specs.declared.trees.Query.{Query}
-use Rattle.eb_rule_text.specs.declared.trees.Baker.{Baker}
-use Rattle.eb_rule_text.specs.declared.trees.System.{System}
-use Rattle.eb_rule_text.specs.declared.trees.Rule.{Rule}
 use Rattle.eb_rule_text.specs.declared.trees.Rule.TheVariants as a_rule
-use Rattle.eb_rule_text.specs.declared.trees.RulesTree.{RulesTree}
-use Rattle.eb_rule_text.specs.declared.trees.Target.{Target}
 use Rattle.eb_rule_text.specs.declared.trees.Target.TheVariants as a_target
-use Rattle.eb_rule_text.specs.declared.trees.Command.{Command}
 use Rattle.eb_rule_text.specs.declared.trees.Command.TheVariants as a_command
-use Rattle.eb_rule_text.specs.declared.trees.JobTree.{JobTree}
-use Rattle.eb_rule_text.specs.Tokens.{Text}
-use Rattle.eb_rule_text.specs.Spelled.{find_then, read_then, link_in_then}
-use Rattle.eb_rule_text.specs.Spelling.{token_text, text_of}
+use Rattle.eb_rule_text.specs.{Tokens.Text, Spelled.find_then, Spelled.read_then, Spelled.link_in_then, Spelling.token_text, Spelling.text_of}
 
 abbrev pub mark_out : Mark → Text
 mark_out k = token_text (l.Mark k)

@@ -1,19 +1,15 @@
 -- The tokens of what is always spelled alike but for its names, and where it may stand.
 use Rattle.std.specs.Prelude.{ℕ, Bool, true, false, ◌∷◌}
-use Rattle.eb_rule_text.specs.declared.lexemes.Lexeme.TheVariants as l
+use Rattle.eb_rule_text.specs.declared.trees.{Context.Context, Reach.Reach, FieldPath.FieldPath, Find.Find, Read.Read, Target.Target}
 use Rattle.eb_rule_text.specs.declared.marks.Mark.{Mark}
+use Rattle.eb_rule_text.specs.declared.lexemes.Lexeme.TheVariants as l
 use Rattle.eb_rule_text.specs.declared.marks.Mark.TheVariants as m
-use Rattle.eb_rule_text.specs.declared.trees.Context.{Context}
 use Rattle.eb_rule_text.specs.declared.trees.Context.TheVariants as c
-use Rattle.eb_rule_text.specs.declared.trees.Reach.{Reach}
 use Rattle.eb_rule_text.specs.declared.trees.Reach.TheVariants as reach
-use Rattle.eb_rule_text.specs.declared.trees.FieldPath.{FieldPath}
-use Rattle.eb_rule_text.specs.declared.trees.Find.{Find}
 use Rattle.eb_rule_text.specs.declared.trees.Find.TheVariants as f
-use Rattle.eb_rule_text.specs.declared.trees.Read.{Read}
 use Rattle.eb_rule_text.specs.declared.trees.Read.TheVariants as r
-use Rattle.eb_rule_text.specs.Tokens.{Text}
-use Rattle.eb_rule_text.specs.Input.{Input}
+use Rattle.eb_rule_text.specs.declared.trees.Target.TheVariants as a_target
+use Rattle.eb_rule_text.specs.{Tokens.Text, Input.Input}
 
 -- T . f
 abbrev pub path_then : FieldPath → Input → Input
@@ -101,3 +97,10 @@ abbrev pub read_levels : Read → ℕ
 read_levels (r.This x) = 0
 read_levels (r.Field p) = 0
 read_levels _ = 1
+
+-- ---- targets of commands
+
+abbrev pub target_then : Target → Input → Input
+target_then a_target.This j = l.Mark m.This ∷ j
+target_then (a_target.Name x) j = l.Name x ∷ j
+target_then (a_target.At link) j = l.Mark m.At ∷ link_in_then link j

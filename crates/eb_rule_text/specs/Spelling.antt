@@ -1,13 +1,10 @@
 -- The text of a list of tokens: each as it is spelled, and a blank byte behind it.
 use Rattle.std.specs.Prelude.{◌≡◌, ◌≤◌, length, ℕ, Bool, true, false, if◌then◌else◌, ◌==◌, List, [], ◌∷◌, ◌++◌, codes}
-use Rattle.std.specs.Fmt.{signed_decimal}
-use Rattle.std.specs.List.{list_any}
+use Rattle.std.specs.{Fmt.signed_decimal, List.list_any}
 use Rattle.eb_base.specs.FixedPoint.{fixed_text}
-use Rattle.eb_rule_text.specs.declared.lexemes.Lexeme.{Lexeme}
+use Rattle.eb_rule_text.specs.declared.{lexemes.Lexeme.Lexeme, marks.Mark.Mark, cutting.Sort.Sort}
 use Rattle.eb_rule_text.specs.declared.lexemes.Lexeme.TheVariants as l
-use Rattle.eb_rule_text.specs.declared.marks.Mark.{Mark}
 use Rattle.eb_rule_text.specs.declared.marks.Mark.TheVariants as m
-use Rattle.eb_rule_text.specs.declared.cutting.Sort.{Sort}
 use Rattle.eb_rule_text.specs.declared.lexing.Found.TheVariants as found
 use Rattle.eb_rule_text.specs.Tokens.{Text, cut, meaning}
 

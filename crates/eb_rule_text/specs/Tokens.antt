@@ -1,24 +1,18 @@
 -- The tokens of a text, and where they begin.
 use Rattle.std.specs.Prelude.{◌≡◌, ◌≢◌, ◌≤◌, ℕ, zero, suc, ◌+◌, ◌-◌, ◌^◌, min, Bool, true, false, not, ◌&&◌, ◌||◌, if◌then◌else◌, ◌==◌, nat_le, List, [], ◌∷◌, ◌++◌, take, drop, map, slice_index, Option, Some, None, Result, Ok, Err, ℤ, pos, bytes_eq}
 use Rattle.std.specs.List.{prefix_len}
-use Rattle.eb_base.specs.Digits.{below, digits_after}
-use Rattle.eb_base.specs.FixedPoint.{fixed_of}
-use Rattle.eb_base.specs.TypeNames.{word_byte, starts_with_letter}
-use Rattle.eb_rule_text.specs.declared.cutting.Sort.{Sort}
-use Rattle.eb_rule_text.specs.declared.cutting.Sort.TheVariants as sort
-use Rattle.eb_rule_text.specs.declared.cutting.Start.{Start}
-use Rattle.eb_rule_text.specs.declared.cutting.Start.TheVariants as start
-use Rattle.eb_rule_text.specs.declared.cutting.Run.{Run}
-use Rattle.eb_rule_text.specs.declared.cutting.Run.TheVariants as run
-use Rattle.eb_rule_text.specs.declared.errors.TokenError.{TokenError}
+use Rattle.eb_base.specs.{Digits.below, Digits.digits_after, FixedPoint.fixed_of, TypeNames.word_byte, TypeNames.starts_with_letter}
+use Rattle.eb_rule_text.specs.declared.cutting.{Sort.Sort, Start.Start, Run.Run}
 use Rattle.eb_rule_text.specs.declared.errors.TokenError.TheVariants.{Memory, Token}
-use Rattle.eb_rule_text.specs.declared.lexemes.Lexed.{Lexed}
-use Rattle.eb_rule_text.specs.declared.lexemes.Lexeme.{Lexeme}
-use Rattle.eb_rule_text.specs.declared.lexemes.Lexeme.TheVariants as l
-use Rattle.eb_rule_text.specs.declared.lexing.Found.{Found}
-use Rattle.eb_rule_text.specs.declared.lexing.Found.TheVariants as found
-use Rattle.eb_rule_text.specs.declared.lexing.TheConstants.{WORDS}
+use Rattle.eb_rule_text.specs.declared.errors.TokenError.{TokenError}
+use Rattle.eb_rule_text.specs.declared.lexemes.{Lexed.Lexed, Lexeme.Lexeme}
+use Rattle.eb_rule_text.specs.declared.lexing.{Found.Found, TheConstants.WORDS}
 use Rattle.eb_rule_text.specs.declared.marks.Mark.{Mark}
+use Rattle.eb_rule_text.specs.declared.cutting.Sort.TheVariants as sort
+use Rattle.eb_rule_text.specs.declared.cutting.Start.TheVariants as start
+use Rattle.eb_rule_text.specs.declared.cutting.Run.TheVariants as run
+use Rattle.eb_rule_text.specs.declared.lexemes.Lexeme.TheVariants as l
+use Rattle.eb_rule_text.specs.declared.lexing.Found.TheVariants as found
 use Rattle.eb_rule_text.specs.declared.marks.Mark.TheVariants as m
 
 abbrev pub Text : Type 0

@@ -1,5 +1,5 @@
 // A cursor over the tokens of a text, and the reading of one token.
-ghost use Rattle.std.specs.Prelude.{◌≡◌, ◌<◌, [], true, if◌then◌else◌, length, drop, OnOk};
+ghost use Rattle.std.specs.Prelude.{◌≡◌, ◌<◌, [], true, if◌then◌else◌, length, drop, IfOk, OnOk};
 ghost use Rattle.eb_rule_text.specs.Input as spec;
 ghost use Rattle.eb_rule_text.specs.Input.{Reads};
 
@@ -104,6 +104,16 @@ impl<'a> Tokens<'a> {
         Ok(())
     }
 
+    /// Takes this token behind what was read, and answers what was read; or refuses the token that comes.
+    pub fn close<T>(&mut self, read: T, mark: Mark) -> Result<T, ReadError>
+    where
+        T: Drop,
+        ensures { Reads (spec.go_on (spec.expect mark self.old) (λ taken. spec.pure read)) result self.new }
+    {
+        self.expect(mark)?;
+        Ok(read)
+    }
+
     /// Takes this token, if it comes next, and answers whether it did.
     #[tactic(auto, unfolding(crate::specs::Input::eat))]
     pub fn eat(&mut self, mark: Mark) -> bool
@@ -157,6 +167,17 @@ impl<'a> Tokens<'a> {
             [Lexeme::Fix(_), ..] => Err(self.refuse()),
             [] => Err(self.refuse()),
         }
+    }
+
+    /// Takes a name behind what was read, and answers both; or refuses the token that comes.
+    pub fn name_behind<T>(&mut self, alloc: Global, read: T) -> Result<(T, Text), ReadError>
+    where
+        T: Drop,
+        ensures value { Reads (spec.name self.old) (spec.behind result) self.new }
+        ensures kept { IfOk result (λ both. both.0 ≡ read) }
+    {
+        let name = self.name(alloc)?;
+        Ok((read, name))
     }
 
     /// Whether a name comes next.

@@ -1,5 +1,5 @@
 // Where the token at the front of a text ends, and of which sort it is. Each is the longest one.
-ghost use Rattle.std.specs.Prelude.{◌≡◌, ◌≢◌, ◌<◌, ◌≤◌, true, slice_index, length, None};
+ghost use Rattle.std.specs.Prelude.{◌≡◌, ◌≢◌, ◌<◌, ◌≤◌, min, true, slice_index, length, None};
 ghost use Rattle.std.specs.List.{prefix_len};
 ghost use Rattle.eb_rule_text.specs.Tokens as spec;
 
@@ -56,8 +56,8 @@ pub fn cut(z: &[u8]) -> (Sort, usize)
         Start::Blank => (Sort::Blank, 1),
         Start::Comment => (Sort::Blank, past(Run::Line, z)),
         Start::Number => number(z),
-        Start::Word => (Sort::Word, past(Run::Word, z).min(WORD_BYTES)),
-        Start::Other => sign(z[0], byte(z, 1)),
+        Start::Word => (Sort::Word, word(z)),
+        Start::Other => sign(z[0], byte_at(z, 1)),
     }
 }
 
@@ -93,12 +93,15 @@ fn is_in(run: Run, b: u8) -> bool
     }
 }
 
-// The byte at a place, and 0 behind the end.
-fn byte(z: &[u8], at: usize) -> u8
-    ensures value { result ≡ slice_index z.now at }
-    ensures within { result ≢ 0 → at < length z.now }
+// The byte at a place, and behind the end 0, which is in no run and no sign.
+fn byte_at(text: &[u8], place: usize) -> u8
+    ensures value { result ≡ slice_index text.now place }
+    ensures inside { result ≢ 0 → place < length text.now }
 {
-    if at < z.len() { z[at] } else { 0 }
+    match text.get(place) {
+        Some(byte) => *byte,
+        None => 0,
+    }
 }
 
 // How many bytes at the front go on.
@@ -107,11 +110,17 @@ fn past(run: Run, z: &[u8]) -> usize
     ensures within { result ≤ length z.now }
     ensures moves { 0 < length z.now → spec.is_in run (slice_index z.now 0) ≡ true → 1 ≤ result }
 {
-    let mut end = 0;
-    while end < z.len() && is_in(run, z[end]) {
-        end += 1;
-    }
-    end
+    z.iter().take_while(|b| is_in(run, **b)).count()
+}
+
+// A word, of which no byte is looked at behind the greatest length.
+fn word(z: &[u8]) -> usize
+    requires some { 0 < length z.now }
+    requires begins { spec.is_in Run.Word (slice_index z.now 0) ≡ true }
+    ensures value { result ≡ min (prefix_len (spec.is_in Run.Word) z.now) 32 }
+    ensures within { (1 ≤ result) × (result ≤ length z.now) }
+{
+    past(Run::Word, &z[..z.len().min(WORD_BYTES)])
 }
 
 // A number, with its fraction where a digit stands behind the point.
@@ -122,7 +131,7 @@ fn number(z: &[u8]) -> (Sort, usize)
     ensures within { (1 ≤ result.1) × (result.1 ≤ length z.now) }
 {
     let whole = past(Run::Digits, z);
-    if byte(z, whole) == b'.' && is_digit(byte(z, whole + 1)) {
+    if byte_at(z, whole) == b'.' && is_digit(byte_at(z, whole + 1)) {
         (Sort::Fix, whole + 1 + past(Run::Digits, &z[whole + 1..]))
     } else {
         (Sort::Int, whole)

@@ -1,7 +1,8 @@
 // Expressions: levels of operators, signs, and what they stand between.
 ghost use Rattle.std.specs.Prelude.{◌≡◌, ◌≤◌, length, IfOk};
-ghost use Rattle.eb_rule_text.specs.Input.{Reads, mark};
+ghost use Rattle.eb_rule_text.specs.Input.{Reads, go_on, mark, name, pure};
 ghost use Rattle.eb_rule_text.specs.Reading as spec;
+ghost use Rattle.eb_rule_text.specs.declared.trees.Expr.TheVariants as e;
 
 use crate::cursor::Tokens;
 use crate::errors::ReadError;
@@ -201,7 +202,6 @@ fn prim(
 }
 
 #[cycle(reading)]
-#[tactic(auto, unfolding(crate::specs::Reading::atom))]
 fn atom(
     alloc: Global,
     tokens: &mut Tokens<'_>,
@@ -210,12 +210,19 @@ fn atom(
 ) -> Result<Expr, ReadError>
     ensures { Reads (spec.atom context depth (spec.below context depth) tokens.old) result tokens.new }
 {
+    match tokens.mark() {
+        Some(mark) => marked(alloc, tokens, context, depth, mark),
+        None => literal(alloc, tokens),
+    }
+}
+
+// A name or a number.
+#[tactic(auto, unfolding(crate::specs::Input::name))]
+fn literal(alloc: Global, tokens: &mut Tokens<'_>) -> Result<Expr, ReadError>
+    ensures { Reads (spec.literal tokens.old) result tokens.new }
+{
     match tokens.rest() {
-        [Lexeme::Mark(mark), ..] => marked(alloc, tokens, context, depth, *mark),
-        [Lexeme::Name(_), ..] => {
-            let name = tokens.name(alloc)?;
-            Ok(Expr::Name(name))
-        }
+        [Lexeme::Name(_), ..] => named(alloc, tokens),
         [Lexeme::Int(number), ..] => {
             tokens.skip();
             Ok(Expr::Int(*number))
@@ -224,9 +231,17 @@ fn atom(
             tokens.skip();
             Ok(Expr::Fix(*units))
         }
+        [Lexeme::Mark(_), ..] => Err(tokens.refuse()),
         [Lexeme::Underscored, ..] => Err(tokens.refuse()),
         [] => Err(tokens.refuse()),
     }
+}
+
+fn named(alloc: Global, tokens: &mut Tokens<'_>) -> Result<Expr, ReadError>
+    ensures { Reads (go_on (name tokens.old) (λ read. pure (e.Name read))) result tokens.new }
+{
+    let read = tokens.name(alloc)?;
+    Ok(Expr::Name(read))
 }
 
 // An atom that begins with a reserved word or a parenthesis.

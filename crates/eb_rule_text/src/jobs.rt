@@ -1,7 +1,7 @@
 // Commands, and a whole text of a job.
-ghost use Rattle.std.specs.Prelude.{◌≡◌};
+ghost use Rattle.std.specs.Prelude.{◌≡◌, IfOk};
 ghost use Rattle.eb_rule_text.specs.Blocks as spec;
-ghost use Rattle.eb_rule_text.specs.Input.{Reads};
+ghost use Rattle.eb_rule_text.specs.Input.{Reads, behind};
 
 use crate::blocks::inits;
 use crate::cursor::Tokens;
@@ -59,7 +59,7 @@ fn remove(alloc: Global, tokens: &mut Tokens<'_>, depth: u8) -> Result<Command, 
 {
     tokens.expect(Mark::Remove)?;
     let on = target(alloc, tokens, depth)?;
-    let kind = tokens.name(alloc)?;
+    let (on, kind) = tokens.name_behind(alloc, on)?;
     Ok(Command::Remove(on, kind))
 }
 
@@ -69,7 +69,7 @@ fn add_to(alloc: Global, tokens: &mut Tokens<'_>, depth: u8) -> Result<Command, 
 {
     tokens.expect(Mark::Add)?;
     let on = target(alloc, tokens, depth)?;
-    let kind = tokens.name(alloc)?;
+    let (on, kind) = tokens.name_behind(alloc, on)?;
     let values = inits(alloc, tokens, Context::Job, depth)?;
     Ok(Command::Add(on, kind, values))
 }
@@ -80,7 +80,7 @@ fn set_on(alloc: Global, tokens: &mut Tokens<'_>, depth: u8) -> Result<Command, 
 {
     tokens.expect(Mark::Set)?;
     let on = target(alloc, tokens, depth)?;
-    let kind = tokens.name(alloc)?;
+    let (on, kind) = tokens.name_behind(alloc, on)?;
     let values = inits(alloc, tokens, Context::Job, depth)?;
     Ok(Command::Set(on, kind, values))
 }
@@ -116,6 +116,21 @@ fn commands(alloc: Global, tokens: &mut Tokens<'_>) -> Result<Items<Command>, Re
     Err(tokens.refuse())
 }
 
+// The commands behind what was read, and what was read.
+fn commands_behind<T>(
+    alloc: Global,
+    tokens: &mut Tokens<'_>,
+    read: T,
+) -> Result<(T, Items<Command>), ReadError>
+where
+    T: Drop,
+    ensures value { Reads (spec.commands tokens.old) (behind result) tokens.new }
+    ensures kept { IfOk result (λ both. both.0 ≡ read) }
+{
+    let more = commands(alloc, tokens)?;
+    Ok((read, more))
+}
+
 /// A job.
 #[tactic(auto, unfolding(crate::specs::Blocks::one_job))]
 pub fn one_job(alloc: Global, tokens: &mut Tokens<'_>) -> Result<JobTree, ReadError>
@@ -125,7 +140,7 @@ pub fn one_job(alloc: Global, tokens: &mut Tokens<'_>) -> Result<JobTree, ReadEr
     let query = query(alloc, tokens)?;
     tokens.expect(Mark::Key)?;
     let key = expression(alloc, tokens, Context::Job, LEVELS)?;
-    let commands = commands(alloc, tokens)?;
+    let (key, commands) = commands_behind(alloc, tokens, key)?;
     Ok(JobTree {
         query,
         key,

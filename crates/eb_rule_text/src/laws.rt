@@ -1,12 +1,16 @@
-// That the reader and the grammar are one.
-ghost use Rattle.std.specs.Prelude.{◌≡◌, [], ℕ, List, Ok};
+// What holds of tokens, and that the reader and the grammar are one.
+ghost use Rattle.std.specs.Prelude.{◌≡◌, ◌<◌, [], ℕ, List, length, Ok};
 ghost use Rattle.eb_base.specs.TypeNames.{is_reserved};
 ghost use Rattle.eb_rule_text.specs.Blocks as spec;
-ghost use Rattle.eb_rule_text.specs.Tokens.{is_found, keyword};
+ghost use Rattle.eb_rule_text.specs.Counts.{FindsSpan, ReadsSpan, TargetsSpan};
+ghost use Rattle.eb_rule_text.specs.OneToken.{TakesLongest};
+ghost use Rattle.eb_rule_text.specs.Tokens.{cut, is_found, keyword};
 ghost use Rattle.eb_rule_text.specs.Grammar.{IsJob, IsRules};
 ghost use Rattle.eb_rule_text.specs.Input.{Input};
 ghost use Rattle.eb_rule_text.specs.Passes.{placed, read_text};
 ghost use Rattle.eb_rule_text.specs.Printing.{job_text, rules_text};
+ghost use Rattle.eb_rule_text.specs.Refusing.{NoneGoesOn};
+ghost use Rattle.eb_rule_text.specs.declared.errors.ReadError.TheVariants.{Depth, Syntax};
 ghost use Rattle.eb_rule_text.specs.declared.trees.JobTree.{JobTree};
 ghost use Rattle.eb_rule_text.specs.declared.trees.RulesTree.{RulesTree};
 
@@ -33,4 +37,23 @@ pub fn printed_reads_back()
 /// The law that the words that tokens keep are those that no type or field may have as its name.
 pub fn words_are_reserved()
     ensures { (word : List ℕ) → is_reserved word ≡ is_found (keyword word) }
+{}
+
+/// The law that the longest token is taken: where a token is cut from the front of a text, it is one word, number or sign, and no
+/// longer front of the text is one. Where none is cut, as at a blank, a comment or a byte that begins nothing, no front is one.
+pub fn the_longest_token_is_taken()
+    ensures { (z : List ℕ) → 0 < length z → TakesLongest (cut z) z }
+{}
+
+/// The law that between the tokens from a read or a target on and those behind it stand as many as it is spelled with.
+pub fn tokens_are_counted()
+    ensures reads { ReadsSpan }
+    ensures finds { FindsSpan }
+    ensures targets { TargetsSpan }
+{}
+
+/// The law that where a token is refused, nothing in the grammar begins with the tokens before it and with that one.
+pub fn refused_tokens_follow_nowhere()
+    ensures rules { NoneGoesOn Syntax spec.rules IsRules × NoneGoesOn Depth spec.rules IsRules }
+    ensures job { NoneGoesOn Syntax spec.job IsJob × NoneGoesOn Depth spec.job IsJob }
 {}

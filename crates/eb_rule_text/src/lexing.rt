@@ -170,15 +170,14 @@ fn name_found(alloc: Global, word: &[u8]) -> Result<Lexeme, Memory>
     }
 }
 
-// The word's entry in the table.
-fn lookup(mut table: &[(&[u8], Mark)], word: &[u8]) -> Option<Mark>
-    ensures { result ≡ spec.lookup (map (λ k. (k.0.now, k.1)) table.entry.now) word.now }
+// What the table says of the word, by its first entry of that name.
+fn lookup(table: &[(&[u8], Mark)], word: &[u8]) -> Option<Mark>
+    ensures { result ≡ spec.lookup (map (λ k. (k.0.now, k.1)) table.now) word.now }
 {
-    while let [entry, rest @ ..] = table {
+    for entry in table {
         if entry.0 == word {
             return Some(entry.1);
         }
-        table = rest;
     }
     None
 }

@@ -32,6 +32,3 @@ pub use trees::{
     Add, Baker, Command, Context, Expr, FieldPath, Find, Init, JobTree, Link, Op, Query, Reach,
     Read, Rule, RulesTree, Stmt, System, Target,
 };
-
-#[cfg(test)]
-mod tests;

@@ -6,7 +6,7 @@ use crate::marks::Mark;
 use crate::put_reads::put_link_in;
 use crate::put_trees::{put_block, put_expr, put_inits};
 use crate::spelling::{put_int, put_mark, put_name};
-use crate::trees::{Baker, Command, JobTree, Query, Rule, RulesTree, System, Target};
+use crate::trees::{Baker, Command, Init, JobTree, Query, Rule, RulesTree, System, Target};
 use eb_base::{Memory, Text};
 use std::alloc::Global;
 
@@ -121,40 +121,75 @@ fn put_target(out: &mut Vec<u8>, target: &Target) -> Result<(), Memory>
     }
 }
 
+// create x
+fn put_create(out: &mut Vec<u8>, name: &Text) -> Result<(), Memory>
+    ensures { OnOk result (out.new.items ≡ out.old.items ++ (spec.mark_out Mark.Create ++ spec.name_out name.now)) }
+{
+    put_mark(out, Mark::Create)?;
+    put_name(out, name)?;
+    Ok(())
+}
+
+// destroy target
+fn put_destroy(out: &mut Vec<u8>, on: &Target) -> Result<(), Memory>
+    ensures { OnOk result (out.new.items ≡ out.old.items ++ (spec.mark_out Mark.Destroy ++ spec.target_text on.now)) }
+{
+    put_mark(out, Mark::Destroy)?;
+    put_target(out, on)?;
+    Ok(())
+}
+
+// remove target T
+fn put_remove(out: &mut Vec<u8>, on: &Target, kind: &Text) -> Result<(), Memory>
+    ensures { OnOk result (out.new.items ≡ out.old.items ++ (spec.mark_out Mark.Remove ++ (spec.target_text on.now ++ spec.name_out kind.now))) }
+{
+    put_mark(out, Mark::Remove)?;
+    put_target(out, on)?;
+    put_name(out, kind)?;
+    Ok(())
+}
+
+// The word of a command, its target, and the values that it gives to a component there.
+fn put_values(
+    alloc: Global,
+    out: &mut Vec<u8>,
+    word: Mark,
+    on: &Target,
+    kind: &Text,
+    inits: &[Init],
+) -> Result<(), Memory>
+    ensures { OnOk result (out.new.items ≡ out.old.items ++ (spec.mark_out word ++ (spec.target_text on.now ++ (spec.name_out kind.now ++ spec.inits_text inits.now)))) }
+{
+    put_mark(out, word)?;
+    put_target(out, on)?;
+    put_name(out, kind)?;
+    put_inits(alloc, out, inits)?;
+    Ok(())
+}
+
 fn put_command(alloc: Global, out: &mut Vec<u8>, command: &Command) -> Result<(), Memory>
     ensures { OnOk result (out.new.items ≡ out.old.items ++ spec.command_text command.now) }
 {
     match command {
-        Command::Create(name) => {
-            put_mark(out, Mark::Create)?;
-            put_name(out, name)?;
-            Ok(())
-        }
-        Command::Destroy(on) => {
-            put_mark(out, Mark::Destroy)?;
-            put_target(out, on)?;
-            Ok(())
-        }
-        Command::Remove(on, kind) => {
-            put_mark(out, Mark::Remove)?;
-            put_target(out, on)?;
-            put_name(out, kind)?;
-            Ok(())
-        }
-        Command::Add(on, kind, inits) => {
-            put_mark(out, Mark::Add)?;
-            put_target(out, on)?;
-            put_name(out, kind)?;
-            put_inits(alloc, out, inits.as_slice())?;
-            Ok(())
-        }
-        Command::Set(on, kind, inits) => {
-            put_mark(out, Mark::Set)?;
-            put_target(out, on)?;
-            put_name(out, kind)?;
-            put_inits(alloc, out, inits.as_slice())?;
-            Ok(())
-        }
+        Command::Create(name) => put_create(out, name),
+        Command::Destroy(on) => put_destroy(out, on),
+        Command::Remove(on, kind) => put_remove(out, on, kind),
+        Command::Add(on, kind, inits) => put_values(
+            alloc,
+            out,
+            Mark::Add,
+            on,
+            kind,
+            inits.as_slice(),
+        ),
+        Command::Set(on, kind, inits) => put_values(
+            alloc,
+            out,
+            Mark::Set,
+            on,
+            kind,
+            inits.as_slice(),
+        ),
     }
 }
 

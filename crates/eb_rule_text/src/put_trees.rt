@@ -5,7 +5,7 @@ ghost use Rattle.eb_rule_text.specs.Printing as spec;
 use crate::marks::Mark;
 use crate::put_reads::{put_finds, put_read};
 use crate::spelling::{put_fix, put_int, put_mark, put_name};
-use crate::trees::{Add, Expr, Init, Link, Op, Stmt};
+use crate::trees::{Add, Expr, Find, Init, Link, Op, Stmt};
 use eb_base::{Memory, Text};
 use std::alloc::Global;
 
@@ -30,7 +30,6 @@ fn op_mark(op: Op) -> Mark
 
 /// An expression.
 #[cycle(putting)]
-#[tactic(auto, using(crate::proofs::Printed::text_int, crate::proofs::Printed::text_fix, crate::proofs::Printed::text_true, crate::proofs::Printed::text_false, crate::proofs::Printed::text_null, crate::proofs::Printed::text_name, crate::proofs::Printed::text_paren, crate::proofs::Printed::text_to_fix, crate::proofs::Printed::text_to_int, crate::proofs::Printed::text_read, crate::proofs::Printed::text_find, crate::proofs::Printed::text_negate, crate::proofs::Printed::text_not, crate::proofs::Printed::text_chain))]
 pub fn put_expr(alloc: Global, out: &mut Vec<u8>, expr: &Expr) -> Result<(), Memory>
     ensures { OnOk result (out.new.items ≡ out.old.items ++ spec.expr_text expr.now) }
 {
@@ -45,11 +44,7 @@ pub fn put_expr(alloc: Global, out: &mut Vec<u8>, expr: &Expr) -> Result<(), Mem
         Expr::ToFix(inner) => put_call(alloc, out, Mark::Fix, inner.get()),
         Expr::ToInt(inner) => put_call(alloc, out, Mark::Int, inner.get()),
         Expr::Read(read) => put_read(out, read),
-        Expr::Find(found, last) => {
-            put_finds(out, found.as_slice())?;
-            put_expr(alloc, out, last.get())?;
-            Ok(())
-        }
+        Expr::Find(found, last) => put_found(alloc, out, found.as_slice(), last.get()),
         Expr::Negate(operand) => put_marked(alloc, out, Mark::Minus, operand.get()),
         Expr::Not(operand) => put_marked(alloc, out, Mark::Not, operand.get()),
         Expr::Chain(first, more) => {
@@ -58,6 +53,16 @@ pub fn put_expr(alloc: Global, out: &mut Vec<u8>, expr: &Expr) -> Result<(), Mem
             Ok(())
         }
     }
+}
+
+// Reads with an `or`, and the expression behind them.
+#[cycle(putting)]
+fn put_found(alloc: Global, out: &mut Vec<u8>, found: &[Find], last: &Expr) -> Result<(), Memory>
+    ensures { OnOk result (out.new.items ≡ out.old.items ++ (spec.finds_text found.now ++ spec.expr_text last.now)) }
+{
+    put_finds(out, found)?;
+    put_expr(alloc, out, last)?;
+    Ok(())
 }
 
 // A mark in front of an expression.

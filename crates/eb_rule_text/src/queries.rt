@@ -1,5 +1,5 @@
 // Queries, bakers, systems, and a whole text of rules.
-ghost use Rattle.std.specs.Prelude.{◌≡◌, [], ◌∷◌};
+ghost use Rattle.std.specs.Prelude.{◌≡◌, [], ◌∷◌, true};
 ghost use Rattle.eb_rule_text.specs.Blocks as spec;
 ghost use Rattle.eb_rule_text.specs.Input.{Reads};
 
@@ -28,17 +28,23 @@ fn names_from(alloc: Global, tokens: &mut Tokens<'_>, first: Text) -> Result<Ite
     Ok(done)
 }
 
-// A word and the names behind it, one at least, or nothing.
+// One name at least.
+fn some_names(alloc: Global, tokens: &mut Tokens<'_>) -> Result<Items<Text>, ReadError>
+    ensures { Reads (spec.names_where true tokens.old) result tokens.new }
+{
+    let first = tokens.name(alloc)?;
+    names_from(alloc, tokens, first)
+}
+
+// A word and the names behind it, or nothing.
 #[tactic(auto, unfolding(crate::specs::Blocks::names))]
 fn names(alloc: Global, tokens: &mut Tokens<'_>, word: Mark) -> Result<Items<Text>, ReadError>
     ensures { Reads (spec.names word tokens.old) result tokens.new }
 {
-    if !tokens.eat(word) {
-        return Ok(Items::new(alloc));
+    if tokens.eat(word) {
+        return some_names(alloc, tokens);
     }
-    let first = tokens.name(alloc)?;
-    let all = names_from(alloc, tokens, first)?;
-    Ok(all)
+    Ok(Items::new(alloc))
 }
 
 /// The three lists of a query.

@@ -29,8 +29,7 @@ fn of_kind(alloc: Global, tokens: &mut Tokens<'_>, depth: u8) -> Result<Text, Re
 {
     tokens.open(depth, Mark::LParen)?;
     let kind = tokens.name(alloc)?;
-    tokens.expect(Mark::RParen)?;
-    Ok(kind)
+    tokens.close(kind, Mark::RParen)
 }
 
 // ( T ) . f
@@ -51,8 +50,7 @@ fn path_in(alloc: Global, tokens: &mut Tokens<'_>, depth: u8) -> Result<FieldPat
 {
     tokens.open(depth, Mark::LParen)?;
     let read = path(alloc, tokens)?;
-    tokens.expect(Mark::RParen)?;
-    Ok(read)
+    tokens.close(read, Mark::RParen)
 }
 
 // ( this . T . r )
@@ -64,8 +62,7 @@ pub fn link_in(alloc: Global, tokens: &mut Tokens<'_>, depth: u8) -> Result<Fiel
     tokens.expect(Mark::This)?;
     tokens.expect(Mark::Dot)?;
     let read = path(alloc, tokens)?;
-    tokens.expect(Mark::RParen)?;
-    Ok(read)
+    tokens.close(read, Mark::RParen)
 }
 
 // ( this . a )
@@ -77,8 +74,7 @@ fn field_in(alloc: Global, tokens: &mut Tokens<'_>, depth: u8) -> Result<Text, R
     tokens.expect(Mark::This)?;
     tokens.expect(Mark::Dot)?;
     let field = tokens.name(alloc)?;
-    tokens.expect(Mark::RParen)?;
-    Ok(field)
+    tokens.close(field, Mark::RParen)
 }
 
 // children, or within
@@ -218,8 +214,7 @@ fn find(
     ensures { Reads (spec.find context depth tokens.old) result tokens.new }
 {
     let read = any_find(alloc, tokens, context, depth)?;
-    tokens.expect(Mark::Or)?;
-    Ok(read)
+    tokens.close(read, Mark::Or)
 }
 
 // Whether a read that goes on with `or` comes next.
@@ -381,8 +376,7 @@ fn entity(
     tokens.expect(Mark::Entity)?;
     tokens.open(depth, Mark::LParen)?;
     let read = entity_in(alloc, tokens, context)?;
-    tokens.expect(Mark::RParen)?;
-    Ok(read)
+    tokens.close(read, Mark::RParen)
 }
 
 fn baker_read(alloc: Global, tokens: &mut Tokens<'_>, depth: u8) -> Result<Read, ReadError>

@@ -1,121 +1,86 @@
--- Names and types of jobs.
-use Rattle.std.specs.Prelude.{◌≡◌, ℕ, ◌+◌, nat_le, Bool, true, false, if◌then◌else◌, List, [], ◌∷◌, ◌++◌, drop, Option, Some, None, Result, Ok, Err}
-use Rattle.eb_rule_text.specs.declared.errors.TextError.{TextError}
-use Rattle.eb_rule_text.specs.declared.passes.Placed.{Placed}
-use Rattle.eb_rule_text.specs.declared.trees.Init.{Init}
-use Rattle.eb_rule_text.specs.declared.trees.Target.{Target}
+-- Names and types of jobs, and what they are resolved to.
+use Rattle.std.specs.Prelude.{ℕ, ◌+◌, not, nat_le, List, [], ◌∷◌, ◌++◌, drop, Some, Ok}
+use Rattle.eb_rule_text.specs.declared.trees.{Init.Init, Target.Target, Command.Command, JobTree.JobTree}
+use Rattle.eb_rule_text.specs.declared.trees.Context.TheVariants as c
 use Rattle.eb_rule_text.specs.declared.trees.Target.TheVariants as a_target
-use Rattle.eb_rule_text.specs.declared.trees.Command.{Command}
 use Rattle.eb_rule_text.specs.declared.trees.Command.TheVariants as a_command
-use Rattle.eb_rule_text.specs.declared.trees.JobTree.{JobTree}
-use Rattle.eb_rule_text.specs.Blocks.{job}
-use Rattle.eb_rule_text.specs.Passes.{read_text}
+use Rattle.eb_rule_text.specs.{Input.Input, Spelled.target_then, Counts.target_tokens, Blocks.job, Passes.read_text}
 use Rattle.eb_schema.specs.Schemas.{Types, component_named}
-use Rattle.eb_schema.specs.declared.kinds.Field.{Field}
 use Rattle.eb_rules.specs.declared.faults.RuleKind.TheVariants.{UnknownName, TypeFault, NameTaken, TooMany}
+use Rattle.eb_rules.specs.declared.plans.{Addition.Addition, Aim.Aim, JobPlan.JobPlan, Order.Order, Term.Term}
+use Rattle.eb_rules.specs.declared.scopes.{Visible.Visible}
 use Rattle.eb_rules.specs.declared.queries.Query3.{Query3}
-use Rattle.eb_rules.specs.declared.scopes.Bound.{Bound}
+use Rattle.eb_rules.specs.declared.plans.Aim.TheVariants as an_aim
+use Rattle.eb_rules.specs.declared.plans.Order.TheVariants as an_order
 use Rattle.eb_rules.specs.declared.scopes.Bound.TheVariants as bound
-use Rattle.eb_rules.specs.declared.scopes.Visible.{Visible}
 use Rattle.eb_rules.specs.declared.shapes.Shape.TheVariants as shape
-use Rattle.eb_rules.specs.Shapes.{is_ref}
-use Rattle.eb_rules.specs.Scopes.{Text, Where, component_fields, bound_of}
-use Rattle.eb_rules.specs.Typing.{Places, Found, refused, and_found, asked, is_known, typed}
-use Rattle.eb_rules.specs.Statements.{entity_named, fitted, inits_from}
-use Rattle.eb_rules.specs.Queries.{query_typed, text_refusal, capped}
-use Rattle.eb_rules.specs.declared.faults.RuleFault.{RuleFault}
-use Rattle.eb_rules.specs.declared.faults.RuleFault.TheVariants.{Memory, At}
+use Rattle.eb_rules.specs.{Shapes.is_ref, Queries.query_typed, Queries.meant}
+use Rattle.eb_rules.specs.Scopes.{Text, Where, place_of, as_entity}
+use Rattle.eb_rules.specs.Typing.{Places, Found, Walked, required, tested, and_found, asked, at_name, visible}
+use Rattle.eb_rules.specs.Statements.{fitted, is_free, values_typed}
 
 -- ---- targets
 
-abbrev pub name_target : Option Bound → Places → Found Places
-name_target None p = Err (refused UnknownName p)
-name_target (Some (bound.Value s)) p = Err (refused TypeFault p)
-name_target (Some bound.Entity) p = Ok (drop 1 p)
+-- the names at their places in the target's own spelling
+abbrev pub aim_typed : Where → Target → Input → Places → Found Aim
+aim_typed w a_target.This i p = Ok an_aim.This
+aim_typed w (a_target.Name x) i p = and_found (visible as_entity w x p) (λ s. Ok (an_aim.Created (place_of x w.known)))
+aim_typed w (a_target.At x) i p = and_found (asked w x (at_name 0 i p) (at_name 1 i p)) (λ y. and_found (tested TypeFault (is_ref y.field.kind) p) (λ u.
+    Ok (an_aim.At y)))
 
-abbrev pub link_target : Bool → Places → Found Places
-link_target true p = Ok (drop 8 p)
-link_target false p = Err (refused TypeFault p)
+abbrev pub aim_walk : Where → Target → Places → Found Aim
+aim_walk w x p = aim_typed w x (target_then x []) p
 
-abbrev pub target_typed : Where → Target → Places → Found Places
-target_typed w a_target.This p = Ok (drop 1 p)
-target_typed w (a_target.Name x) p = name_target (bound_of x w.known) p
-target_typed w (a_target.At link) p = and_found (asked w link 4 6 p) (λ k. link_target (is_ref k) p)
+abbrev pub target_typed : Where → Target → Places → Walked Aim
+target_typed w x p = and_found (aim_walk w x p) (λ y. Ok (y, drop (target_tokens x) p))
 
 -- ---- commands
 
-abbrev pub kind_known : Option ℕ → Places → Found ℕ
-kind_known None p = Err (refused UnknownName p)
-kind_known (Some n) p = Ok n
-
-abbrev pub kind_fields : Option (List Field) → Places → Found (List Field)
-kind_fields None p = Err (refused UnknownName p)
-kind_fields (Some fields) p = Ok fields
-
 -- T { .. }
-abbrev pub values_typed : Where → Text → List Init → Places → Found Places
-values_typed w kind inits p =
-    and_found (kind_known (component_named w.types kind) p) (λ n. and_found (kind_fields (component_fields w.types n) p) (λ fields. inits_from w fields fields true inits (drop 2 p)))
+abbrev pub filled : Where → Text → List Init → Places → Walked Addition
+filled w kind inits p = and_found (required UnknownName (component_named w.types kind) p) (λ n. values_typed w n inits (drop 1 p))
 
--- a command that makes no name visible
-abbrev pub command_typed : Where → Command → Places → Found Places
-command_typed w (a_command.Create x) p = if is_known (bound_of x w.known) then Err (refused NameTaken (drop 1 p)) else Ok (drop 2 p)
-command_typed w (a_command.Destroy on) p = target_typed w on (drop 1 p)
-command_typed w (a_command.Remove on kind) p = and_found (target_typed w on (drop 1 p)) (λ q. and_found (kind_known (component_named w.types kind) q) (λ n. Ok (drop 1 q)))
-command_typed w (a_command.Add on kind inits) p = and_found (target_typed w on (drop 1 p)) (λ q. values_typed w kind inits q)
-command_typed w (a_command.Set on kind inits) p = and_found (target_typed w on (drop 1 p)) (λ q. values_typed w kind inits q)
+-- a command, of which each part is tested in the order of the text
+abbrev pub command_typed : Where → Command → Places → Walked Order
+command_typed w (a_command.Create x) p = and_found (tested NameTaken (is_free x w.known) (drop 1 p)) (λ u. Ok (an_order.Create, drop 2 p))
+command_typed w (a_command.Destroy on) p = and_found (target_typed w on (drop 1 p)) (λ y. Ok (an_order.Destroy y.0, y.1))
+command_typed w (a_command.Remove on kind) p = and_found (target_typed w on (drop 1 p)) (λ y.
+    and_found (required UnknownName (component_named w.types kind) y.1) (λ n. Ok (an_order.Remove y.0 n, drop 1 y.1)))
+command_typed w (a_command.Add on kind inits) p = and_found (target_typed w on (drop 1 p)) (λ y. and_found (filled w kind inits y.1) (λ z.
+    Ok (an_order.Add y.0 z.0, z.1)))
+command_typed w (a_command.Set on kind inits) p = and_found (target_typed w on (drop 1 p)) (λ y. and_found (filled w kind inits y.1) (λ z.
+    Ok (an_order.Set y.0 z.0, z.1)))
 
 abbrev pub job_scope : Types → List ℕ → List Visible → Where
-job_scope types all known = record { types = types; own = []; all = all; known = known }
+job_scope types all seen = record { types = types; context = c.Job; own = []; all = all; known = seen }
 
 -- a created name is visible in the commands behind it
 abbrev pub behind_command : Command → List Visible → List Visible
-behind_command (a_command.Create x) known = known ++ entity_named x ∷ []
-behind_command (a_command.Destroy on) known = known
-behind_command (a_command.Remove on kind) known = known
-behind_command (a_command.Add on kind inits) known = known
-behind_command (a_command.Set on kind inits) known = known
-
-abbrev pub roomy_command : Bool → Where → Command → Places → Found Places
-roomy_command true w x p = Err (refused TooMany p)
-roomy_command false w x p = command_typed w x p
+behind_command (a_command.Create x) seen = seen ++ record { name = x; bound = bound.Entity } ∷ []
+behind_command (a_command.Destroy on) seen = seen
+behind_command (a_command.Remove on kind) seen = seen
+behind_command (a_command.Add on kind inits) seen = seen
+behind_command (a_command.Set on kind inits) seen = seen
 
 -- commands, of which so many stood before: a 9th is too many
-abbrev pub commands_typed : Types → List ℕ → List Command → ℕ → List Visible → Places → Found Places
-commands_typed types all [] count known p = Ok p
-commands_typed types all (x ∷ xs) count known p =
-    and_found (roomy_command (nat_le 8 count) (job_scope types all known) x p) (λ q. commands_typed types all xs (count + 1) (behind_command x known) q)
+abbrev pub commands_typed : Types → List ℕ → List Command → ℕ → List Visible → List Order → Places → Walked (List Order)
+commands_typed types all [] count seen done p = Ok (done, p)
+commands_typed types all (x ∷ xs) count seen done p =
+    and_found (tested TooMany (not (nat_le 8 count)) p) (λ u. and_found (command_typed (job_scope types all seen) x p) (λ y.
+    commands_typed types all xs (count + 1) (behind_command x seen) (done ++ y.0 ∷ []) y.1))
 
 -- ---- a whole job
 
--- the tree of a job, and the types of its query
-pub record MeantJob : Type 0 where
-  pub tree : JobTree
-  pub query : Query3
-
-abbrev pub job_made : JobTree → Query3 → MeantJob
-job_made tree query = record { tree = tree; query = query }
-
-abbrev pub with_query : JobTree → Query3 → Found Places → Found MeantJob
-with_query tree q (Ok p) = Ok (job_made tree q)
-with_query tree q (Err x) = Err x
+abbrev pub job_plan : Query3 → Term → List Order → JobPlan
+job_plan query key orders = record { query = query; key = key; orders = orders }
 
 -- the query, then the key, then the commands
-abbrev pub job_typed : Types → JobTree → Places → Found MeantJob
+abbrev pub job_typed : Types → JobTree → Places → Walked JobPlan
 job_typed types x p =
     and_found (query_typed types x.query (drop 1 p)) (λ q.
-    and_found (fitted (Some shape.Int) (typed (job_scope types q.0.all []) x.key (drop 1 q.1)) (drop 1 q.1)) (λ n.
-    with_query x q.0 (commands_typed types q.0.all x.commands 0 [] (drop 1 n))))
+    and_found (fitted (job_scope types q.0.all []) (Some shape.Int) x.key (drop 1 q.1)) (λ k.
+    and_found (commands_typed types q.0.all x.commands 0 [] [] (drop 1 k.1)) (λ y. Ok (job_plan q.0 k.0 y.0, drop 1 y.1))))
 
-abbrev pub meant_job : Types → Result (Placed JobTree) TextError → Found MeantJob
-meant_job types (Ok placed) = job_typed types placed.tree placed.places
-meant_job types (Err e) = Err (text_refusal e)
-
--- the job that a text says: tokens, then syntax, then meaning
-unfoldable pub job_of : Types → Text → Found MeantJob
-job_of types text = meant_job types (read_text job text)
-
--- a refusal as it is told, unless memory fails
-abbrev pub TellsJob : Found MeantJob → RuleFault → Type 0
-TellsJob told Memory = Unit {0}
-TellsJob told (At at kind) = (n : ℕ) × ((told ≡ Err (record { kind = kind; at = n })) × (at ≡ capped n))
+-- the job that a text says
+unfoldable pub job_of : Types → Text → Found JobTree
+job_of types text = meant (job_typed types) (read_text job text)

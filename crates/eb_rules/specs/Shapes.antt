@@ -4,7 +4,10 @@ use Rattle.eb_rule_text.specs.declared.trees.Op.{Op}
 use Rattle.eb_rule_text.specs.declared.trees.Op.TheVariants as op
 use Rattle.eb_schema.specs.declared.kinds.Kind.{Kind}
 use Rattle.eb_schema.specs.declared.kinds.Kind.TheVariants as kind
+use Rattle.eb_rules.specs.declared.plans.{FindTerm.FindTerm, ReadTerm.ReadTerm}
 use Rattle.eb_rules.specs.declared.shapes.Shape.{Shape}
+use Rattle.eb_rules.specs.declared.plans.FindTerm.TheVariants as found
+use Rattle.eb_rules.specs.declared.plans.ReadTerm.TheVariants as value
 use Rattle.eb_rules.specs.declared.shapes.Shape.TheVariants as shape
 
 abbrev pub shape_of : Kind → Option Shape
@@ -76,14 +79,10 @@ of_op op.Times a b = of_numbers a b
 of_op op.Over a b = of_numbers a b
 
 abbrev pub of_minus : Shape → Option Shape
-of_minus shape.Int = Some shape.Int
-of_minus shape.Fix = Some shape.Fix
-of_minus shape.Bool = None
-of_minus shape.Ref = None
+of_minus a = of_numbers a a
 
 abbrev pub of_not : Shape → Option Shape
-of_not shape.Bool = Some shape.Bool
-of_not _ = None
+of_not a = of_truths a a
 
 abbrev pub of_fix : Shape → Option Shape
 of_fix shape.Int = Some shape.Fix
@@ -92,3 +91,35 @@ of_fix _ = None
 abbrev pub of_int : Shape → Option Shape
 of_int shape.Fix = Some shape.Int
 of_int _ = None
+
+-- this shape, where one is wanted
+abbrev pub fits : Option Shape → Shape → Bool
+fits (Some s) t = same_shape s t
+fits None t = false
+
+-- ---- reads
+
+abbrev pub only_where : Bool → Option Shape → Option Shape
+only_where true s = s
+only_where false s = None
+
+-- of the number that the read finds, where its fields may be read so
+abbrev pub found_shape : FindTerm → Option Shape
+found_shape (found.Own x) = number_of x.field.kind
+found_shape (found.Parent x) = number_of x.field.kind
+found_shape (found.Asset a f) = only_where (is_asset a.kind) (number_of f.kind)
+found_shape (found.Min over x) = number_of x.field.kind
+found_shape (found.Max over x) = number_of x.field.kind
+found_shape (found.At link x) = only_where (is_ref link.field.kind) (number_of x.field.kind)
+found_shape (found.MaxAll x) = number_of x.field.kind
+
+-- of the read's value
+abbrev pub read_shape : ReadTerm → Option Shape
+read_shape (value.This x) = number_of x.kind
+read_shape (value.Field x) = shape_of x.field.kind
+read_shape (value.Sum over x) = number_of x.field.kind
+read_shape (value.Count over kind) = Some shape.Int
+read_shape (value.SumAll x) = number_of x.field.kind
+read_shape (value.CountAll kind) = Some shape.Int
+read_shape value.Entity = Some shape.Ref
+read_shape (value.EntityAt x) = only_where (is_ref x.kind) (Some shape.Ref)

@@ -1,73 +1,72 @@
--- Names and types of statements.
-use Rattle.std.specs.Prelude.{◌≡◌, ℕ, ◌+◌, ◌&&◌, not, nat_le, Bool, true, false, if◌then◌else◌, List, [], ◌∷◌, ◌++◌, drop, take, length, Option, Some, None, Ok, Err, bytes_eq}
-use Rattle.eb_rule_text.specs.declared.trees.Expr.{Expr}
-use Rattle.eb_rule_text.specs.declared.trees.Init.{Init}
-use Rattle.eb_rule_text.specs.declared.trees.Add.{Add}
-use Rattle.eb_rule_text.specs.declared.trees.Stmt.{Stmt}
-use Rattle.eb_rule_text.specs.declared.trees.Stmt.TheOpen.{Stmt-F}
-use Rattle.eb_rule_text.specs.declared.trees.Stmt.TheFolds.{fold-Stmt}
-use Rattle.eb_schema.specs.declared.kinds.Kind.{Kind}
-use Rattle.eb_schema.specs.declared.kinds.Field.{Field}
+-- Names and types of statements, and what they are resolved to.
+use Rattle.std.specs.Prelude.{ℕ, ◌+◌, ◌&&◌, not, nat_le, Bool, true, false, if◌then◌else◌, List, [], ◌∷◌, ◌++◌, drop, take, length, Option, Some, None, Ok, Err}
+use Rattle.eb_rule_text.specs.declared.trees.{Context.Context, Expr.Expr, Init.Init, Add.Add, Stmt.Stmt, Stmt.TheOpen.Stmt-F, Stmt.TheFolds.fold-Stmt}
+use Rattle.eb_rule_text.specs.declared.trees.Context.TheVariants as c
+use Rattle.eb_schema.specs.declared.kinds.{Kind.Kind, Field.Field}
 use Rattle.eb_schema.specs.Schemas.{Types, component_named}
 use Rattle.eb_rules.specs.declared.faults.RuleKind.TheVariants.{UnknownName, TypeFault, NameTaken, TooMany}
+use Rattle.eb_rules.specs.declared.plans.{Addition.Addition, Filling.Filling, Step.Step, Term.Term}
+use Rattle.eb_rules.specs.declared.scopes.{Bound.Bound, Visible.Visible}
+use Rattle.eb_rules.specs.declared.{shapes.Shape.Shape, walking.State.State}
+use Rattle.eb_rules.specs.declared.plans.Step.TheVariants as s
 use Rattle.eb_rules.specs.declared.scopes.Bound.TheVariants as bound
-use Rattle.eb_rules.specs.declared.scopes.Visible.{Visible}
-use Rattle.eb_rules.specs.declared.shapes.Shape.{Shape}
 use Rattle.eb_rules.specs.declared.shapes.Shape.TheVariants as shape
-use Rattle.eb_rules.specs.declared.walking.State.{State}
-use Rattle.eb_rules.specs.declared.walking.WalkError.{WalkError}
-use Rattle.eb_rules.specs.declared.walking.WalkError.TheVariants.{Memory, Refused}
-use Rattle.eb_rules.specs.Shapes.{shape_of, same_shape}
-use Rattle.eb_rules.specs.Scopes.{Text, Where, field_kind, component_fields, is_in_all, bound_of}
-use Rattle.eb_rules.specs.Typing.{Places, Found, Typed, refused, known_kind, and_found, is_known, typed}
+use Rattle.eb_rules.specs.Shapes.{shape_of, fits}
+use Rattle.eb_rules.specs.Scopes.{Text, Where, field_kind, component_fields, next_field, is_in_all, bound_of}
+use Rattle.eb_rules.specs.Typing.{Places, Found, Walked, refused, required, tested, and_found, typed}
 
--- what stays the same on a walk
+-- what stays the same on a walk over statements
 pub record Fixed : Type 0 where
   pub types : Types
+  pub context : Context
   pub own : List Field
   pub all : List ℕ
-  pub baker : Bool
 
 abbrev pub scope_of : Fixed → List Visible → Where
-scope_of g known = record { types = g.types; own = g.own; all = g.all; known = known }
+scope_of g known = record { types = g.types; context = g.context; own = g.own; all = g.all; known = known }
 
 -- ---- values of a component
 
-abbrev pub first_is : List Field → Text → Places → Found Kind
-first_is [] name p = Err (refused TypeFault p)
-first_is (f ∷ fs) name p = if bytes_eq name f.name then Ok f.kind else Err (refused TypeFault p)
-
 -- a field of the component, and the next one
 abbrev pub next_kind : List Field → List Field → Text → Places → Found Kind
-next_kind fields left name p = and_found (known_kind (field_kind name fields) p) (λ k. first_is left name p)
+next_kind fields left name p = and_found (required UnknownName (field_kind name fields) p) (λ k. required TypeFault (next_field left name) p)
 
-abbrev pub fits : Option Shape → Shape → Bool
-fits (Some s) t = same_shape s t
-fits None t = false
+-- an expression of the wanted shape
+abbrev pub fitted : Where → Option Shape → Expr → Places → Walked Term
+fitted w s e p = and_found (typed w e p) (λ y. and_found (tested TypeFault (fits s y.0.shape) p) (λ u. Ok (y.0.term, y.1)))
 
-abbrev pub fitted : Option Shape → Typed → Places → Found Places
-fitted s (Ok q) p = if fits s q.0 then Ok q.1 else Err (refused TypeFault p)
-fitted s (Err x) p = Err x
-
-abbrev pub value_typed : Where → Kind → Expr → Places → Found Places
-value_typed w k e p = fitted (shape_of k) (typed w e p) p
+abbrev pub filling : Kind → Term → Filling
+filling k y = record { kind = k; value = y }
 
 -- f : e
-abbrev pub init_typed : Where → List Field → List Field → Init → Places → Found Places
-init_typed w fields left x p = and_found (next_kind fields left x.field p) (λ k. value_typed w k x.value (drop 2 p))
+abbrev pub init_typed : Where → List Field → List Field → Init → Places → Walked Filling
+init_typed w fields left x p = and_found (next_kind fields left x.field p) (λ k. and_found (fitted w (shape_of k) x.value (drop 2 p)) (λ y.
+    Ok (filling k y.0, y.1)))
+
+abbrev pub Filled : Type 0
+Filled = Walked (List Filling)
 
 -- the closing brace, where each field has its value
-abbrev pub closed : List Field → Places → Found Places
-closed [] p = Ok (drop 1 p)
-closed (f ∷ fs) p = Err (refused TypeFault p)
+abbrev pub closed : List Field → List Filling → Places → Filled
+closed [] done p = Ok (done, drop 1 p)
+closed (f ∷ fs) done p = Err (refused TypeFault p)
 
 abbrev pub behind_comma : Bool → Places → Places
 behind_comma true p = p
 behind_comma false p = drop 1 p
 
-abbrev pub inits_from : Where → List Field → List Field → Bool → List Init → Places → Found Places
-inits_from w fields left first [] p = closed left p
-inits_from w fields left first (x ∷ xs) p = and_found (init_typed w fields left x (behind_comma first p)) (λ q. inits_from w fields (drop 1 left) false xs q)
+abbrev pub inits_from : Where → List Field → List Field → Bool → List Init → List Filling → Places → Filled
+inits_from w fields left first [] done p = closed left done p
+inits_from w fields left first (x ∷ xs) done p = and_found (init_typed w fields left x (behind_comma first p)) (λ y.
+    inits_from w fields (drop 1 left) false xs (done ++ y.0 ∷ []) y.1)
+
+abbrev pub addition : ℕ → List Filling → Addition
+addition n values = record { kind = n; values = values }
+
+-- { .. } of the component type of a number
+abbrev pub values_typed : Where → ℕ → List Init → Places → Walked Addition
+values_typed w n inits p = and_found (inits_from w (component_fields w.types n) (component_fields w.types n) true inits [] (drop 1 p)) (λ y.
+    Ok (addition n y.0, y.1))
 
 -- ---- additions
 
@@ -75,138 +74,103 @@ inits_from w fields left first (x ∷ xs) p = and_found (init_typed w fields lef
 abbrev pub noted : ℕ → List ℕ → List ℕ
 noted n types = if is_in_all n types then types else types ++ n ∷ []
 
--- a 33rd different type
-abbrev pub is_full : Bool → ℕ → List ℕ → Bool
-is_full baker n types = baker && (not (is_in_all n types) && nat_le 32 (length types))
+abbrev pub is_baker : Context → Bool
+is_baker c.Baker = true
+is_baker c.System = false
+is_baker c.Job = false
 
--- the types that were added, and the places behind
-abbrev pub Added : Type 0
-Added = Found (List ℕ × Places)
-
-abbrev pub with_types : List ℕ → Found Places → Added
-with_types types (Ok q) = Ok (types, q)
-with_types types (Err x) = Err x
-
-abbrev pub roomy : Bool → ℕ → Places → Found ℕ
-roomy true n p = Err (refused TooMany (drop 1 p))
-roomy false n p = Ok n
-
-abbrev pub numbered_kind : Fixed → Option ℕ → List ℕ → Places → Found ℕ
-numbered_kind g None types p = Err (refused UnknownName (drop 1 p))
-numbered_kind g (Some n) types p = roomy (is_full g.baker n types) n p
+-- a 33rd different type of a baker's entity
+abbrev pub is_full : Context → ℕ → List ℕ → Bool
+is_full context n types = is_baker context && (not (is_in_all n types) && nat_le 32 (length types))
 
 -- the type that is added to an entity that has been given these types
-abbrev pub add_kind : Fixed → List ℕ → Add → Places → Found ℕ
-add_kind g types x p = numbered_kind g (component_named g.types x.kind) types p
+abbrev pub add_kind : Fixed → List ℕ → Text → Places → Found ℕ
+add_kind g types kind p = and_found (required UnknownName (component_named g.types kind) p) (λ n.
+    and_found (tested TooMany (not (is_full g.context n types)) p) (λ u. Ok n))
 
-abbrev pub filled : Fixed → List Visible → Option (List Field) → Add → Places → Found Places
-filled g known None x p = Err (refused UnknownName (drop 1 p))
-filled g known (Some fields) x p = inits_from (scope_of g known) fields fields true x.inits (drop 3 p)
+-- add T { .. }, to an entity that has been given these types, which are then one more
+abbrev pub Added : Type 0
+Added = Walked (Addition × List ℕ)
 
-abbrev pub add_values : Fixed → List Visible → ℕ → Add → Places → Found Places
-add_values g known n x p = filled g known (component_fields g.types n) x p
-
--- add T { .. }, to an entity that has been given these types
 abbrev pub add_typed : Fixed → List Visible → List ℕ → Add → Places → Added
-add_typed g known types x p = and_found (add_kind g types x p) (λ n. with_types (noted n types) (add_values g known n x p))
-
-abbrev pub adds_onward : Added → (List ℕ → Places → Added) → Added
-adds_onward (Ok q) g = g q.0 q.1
-adds_onward (Err x) g = Err x
+add_typed g seen types x p =
+    and_found (add_kind g types x.kind (drop 1 p)) (λ n. and_found (values_typed (scope_of g seen) n x.inits (drop 2 p)) (λ y. Ok ((y.0, noted n types), y.1)))
 
 -- the additions of an extra
-abbrev pub adds_typed : Fixed → List Visible → List Add → List ℕ → Places → Added
-adds_typed g known [] types p = Ok (types, p)
-adds_typed g known (x ∷ xs) types p = adds_onward (add_typed g known types x p) (λ more q. adds_typed g known xs more q)
+abbrev pub adds_typed : Fixed → List Visible → List Add → List Addition → List ℕ → Places → Walked (List Addition × List ℕ)
+adds_typed g seen [] done types p = Ok ((done, types), p)
+adds_typed g seen (x ∷ xs) done types p = and_found (add_typed g seen types x p) (λ y. adds_typed g seen xs (done ++ y.0.0 ∷ []) y.0.1 y.1)
 
 -- ---- statements
 
--- what a walk has come to, and the places behind
-abbrev pub Walked : Type 0
-Walked = Found (State × Places)
-
+-- a statement resolved, and what the walk has come to behind it
 abbrev pub Walk : Type 0
-Walk = State → Places → Walked
+Walk = State → Places → Walked (Step × State)
 
-abbrev pub and_walk : Walked → Walk → Walked
-and_walk (Ok q) g = g q.0 q.1
-and_walk (Err x) g = Err x
+abbrev pub Walks : Type 0
+Walks = State → Places → Walked (List Step × State)
 
-abbrev pub value_named : Text → Shape → Visible
-value_named x s = record { name = x; bound = bound.Value s }
+abbrev pub is_known : {A : Type 0} → Option A → Bool
+is_known (Some a) = true
+is_known None = false
 
-abbrev pub entity_named : Text → Visible
-entity_named x = record { name = x; bound = bound.Entity }
+-- a name that isn't visible yet
+abbrev pub is_free : Text → List Visible → Bool
+is_free x seen = not (is_known (bound_of x seen))
 
-abbrev pub let_bound : Text → State → Typed → Walked
-let_bound x st (Ok q) = Ok (record { known = st.known ++ value_named x q.0 ∷ []; types = st.types; extras = st.extras }, drop 1 q.1)
-let_bound x st (Err e) = Err e
-
-abbrev pub let_where : Fixed → Bool → Text → Expr → Walk
-let_where g true x e st p = Err (refused NameTaken (drop 1 p))
-let_where g false x e st p = let_bound x st (typed (scope_of g st.known) e (drop 3 p))
+abbrev pub with_name : State → Text → Bound → State
+with_name st x b = record { known = st.known ++ record { name = x; bound = b } ∷ []; types = st.types; extras = st.extras }
 
 -- let x = e ;
 abbrev pub let_walk : Fixed → Text → Expr → Walk
-let_walk g x e st p = let_where g (is_known (bound_of x st.known)) x e st p
+let_walk g x e st p =
+    and_found (tested NameTaken (is_free x st.known) (drop 1 p)) (λ u. and_found (typed (scope_of g st.known) e (drop 3 p)) (λ y.
+    Ok ((s.Let y.0.term, with_name st x (bound.Value y.0.shape)), drop 1 y.1)))
 
-abbrev pub with_added : State → Added → Walked
-with_added st (Ok q) = Ok (record { known = st.known; types = q.0; extras = st.extras }, q.1)
-with_added st (Err e) = Err e
+abbrev pub with_types : State → List ℕ → State
+with_types st types = record { known = st.known; types = types; extras = st.extras }
 
 abbrev pub add_walk : Fixed → Add → Walk
-add_walk g x st p = with_added st (add_typed g st.known st.types x p)
+add_walk g x st p = and_found (add_typed g st.known st.types x p) (λ y. Ok ((s.Add y.0.0, with_types st y.0.1), y.1))
 
-abbrev pub extra_bound : Text → State → Added → Walked
-extra_bound x st (Ok q) = Ok (record { known = st.known ++ entity_named x ∷ []; types = st.types; extras = st.extras + 1 }, drop 1 q.1)
-extra_bound x st (Err e) = Err e
-
-abbrev pub extra_named : Fixed → Bool → Text → List Add → Walk
-extra_named g true x adds st p = Err (refused NameTaken (drop 1 p))
-extra_named g false x adds st p = extra_bound x st (adds_typed g st.known adds [] (drop 3 p))
-
-abbrev pub extra_counted : Fixed → Bool → Text → List Add → Walk
-extra_counted g true x adds st p = Err (refused TooMany p)
-extra_counted g false x adds st p = extra_named g (is_known (bound_of x st.known)) x adds st p
+abbrev pub with_extra : State → Text → State
+with_extra st x = record { known = st.known ++ record { name = x; bound = bound.Entity } ∷ []; types = st.types; extras = st.extras + 1 }
 
 -- extra x { add .. }: a 17th is too many
 abbrev pub extra_walk : Fixed → Text → List Add → Walk
-extra_walk g x adds st p = extra_counted g (nat_le 16 st.extras) x adds st p
+extra_walk g x adds st p =
+    and_found (tested TooMany (not (nat_le 16 st.extras)) p) (λ u. and_found (tested NameTaken (is_free x st.known) (drop 1 p)) (λ v.
+    and_found (adds_typed g st.known adds [] [] (drop 3 p)) (λ y.
+    Ok ((s.Extra st.extras y.0.0, with_extra st x), drop 1 y.1))))
 
-abbrev pub all_walks : List Walk → Walk
-all_walks [] st p = Ok (st, p)
-all_walks (w ∷ ws) st p = and_walk (w st p) (all_walks ws)
+abbrev pub all_walks : List Walk → List Step → Walks
+all_walks [] done st p = Ok ((done, st), p)
+all_walks (w ∷ ws) done st p = and_found (w st p) (λ y. all_walks ws (done ++ y.0.0 ∷ []) y.0.1 y.1)
 
 -- names of a block go out of sight at its closing brace
-abbrev pub shut : ℕ → State → Places → Walked
-shut n st p = Ok (record { known = take n st.known; types = st.types; extras = st.extras }, drop 1 p)
+abbrev pub shut : State → State → State
+shut before st = record { known = take (length before.known) st.known; types = st.types; extras = st.extras }
 
-abbrev pub inside : List Walk → Walk
-inside ws st p = and_walk (all_walks ws st (drop 1 p)) (shut (length st.known))
+abbrev pub inside : List Walk → Walks
+inside ws st p = and_found (all_walks ws [] st (drop 1 p)) (λ y. Ok ((y.0.0, shut st y.0.1), drop 1 y.1))
 
-abbrev pub other_walk : Option (List Walk) → Walk
-other_walk None st p = Ok (st, p)
+-- else { .. }
+abbrev pub other_walk : Option (List Walk) → Walks
+other_walk None st p = Ok (([], st), p)
 other_walk (Some ws) st p = inside ws st (drop 1 p)
 
-abbrev pub behind_test : Found Places → (Places → Walked) → Walked
-behind_test (Ok q) g = g q
-behind_test (Err x) g = Err x
-
-abbrev pub test_typed : Fixed → Expr → State → Places → Found Places
-test_typed g e st p = fitted (Some shape.Bool) (typed (scope_of g st.known) e (drop 1 p)) (drop 1 p)
+abbrev pub if_walk : Fixed → Expr → List Walk → Option (List Walk) → Walk
+if_walk g e body other st p =
+    and_found (fitted (scope_of g st.known) (Some shape.Bool) e (drop 1 p)) (λ y. and_found (inside body st y.1) (λ z.
+    and_found (other_walk other z.0.1 z.1) (λ o.
+    Ok ((s.If y.0 z.0.0 o.0.0, o.0.1), o.1))))
 
 abbrev pub stmt_step : Fixed → Stmt-F Walk → Walk
 stmt_step g (Stmt-F.Let x e) st p = let_walk g x e st p
 stmt_step g (Stmt-F.Add x) st p = add_walk g x st p
 stmt_step g (Stmt-F.Extra x adds) st p = extra_walk g x adds st p
-stmt_step g (Stmt-F.If e body other) st p = behind_test (test_typed g e st p) (λ q. and_walk (inside body st q) (other_walk other))
+stmt_step g (Stmt-F.If e body other) st p = if_walk g e body other st p
 
 -- one statement
 unfoldable pub walked : Fixed → Stmt → Walk
 walked g = fold-Stmt Walk (stmt_step g)
-
--- ---- what functions ensure of a refusal: it is the definition's, unless memory fails
-
-abbrev pub Stops : {A : Type 0} → Found A → WalkError → Type 0
-Stops told Memory = Unit {0}
-Stops told (Refused x) = told ≡ Err x

@@ -1,26 +1,25 @@
--- Names and types of expressions. A walk goes over a tree with the places of its tokens, from the tree's first on.
-use Rattle.std.specs.Prelude.{ℕ, Bool, true, false, if◌then◌else◌, List, [], ◌∷◌, drop, Option, Some, None, Result, Ok, Err}
-use Rattle.eb_rule_text.specs.declared.trees.FieldPath.{FieldPath}
-use Rattle.eb_rule_text.specs.declared.trees.Find.{Find}
-use Rattle.eb_rule_text.specs.declared.trees.Find.TheVariants as f
-use Rattle.eb_rule_text.specs.declared.trees.Read.{Read}
-use Rattle.eb_rule_text.specs.declared.trees.Read.TheVariants as r
-use Rattle.eb_rule_text.specs.declared.trees.Link.{Link}
-use Rattle.eb_rule_text.specs.declared.trees.Expr.{Expr}
-use Rattle.eb_rule_text.specs.declared.trees.Expr.TheOpen.{Expr-F}
+-- Names and types of expressions, and what they are resolved to. A walk goes over a tree with the places of its tokens, from the
+-- tree's first on.
+use Rattle.std.specs.Prelude.{◌≡◌, ℕ, zero, suc, Bool, true, false, if◌then◌else◌, List, [], ◌∷◌, ◌++◌, drop, map, Option, Some, None, Result, Ok, Err}
+use Rattle.eb_rule_text.specs.declared.trees.{FieldPath.FieldPath, Find.Find, Read.Read, Op.Op, Link.Link, Expr.Expr, Expr.TheOpen.Expr-F}
 use Rattle.eb_rule_text.specs.declared.trees.Expr.TheFolds.{fold-Expr}
-use Rattle.eb_schema.specs.declared.kinds.Kind.{Kind}
-use Rattle.eb_schema.specs.declared.kinds.Field.{Field}
-use Rattle.eb_rules.specs.declared.faults.Refusal.{Refusal}
-use Rattle.eb_rules.specs.declared.faults.RuleKind.{RuleKind}
+use Rattle.eb_rule_text.specs.declared.lexemes.Lexeme.TheVariants as l
+use Rattle.eb_rule_text.specs.declared.trees.Find.TheVariants as f
+use Rattle.eb_rule_text.specs.declared.trees.Read.TheVariants as r
+use Rattle.eb_rule_text.specs.{Input.Input, Spelled.find_then, Spelled.read_then, Counts.find_tokens, Counts.read_tokens}
+use Rattle.eb_schema.specs.Schemas.{component_named, authoring_named}
 use Rattle.eb_rules.specs.declared.faults.RuleKind.TheVariants.{UnknownName, TypeFault}
-use Rattle.eb_rules.specs.declared.scopes.Bound.{Bound}
-use Rattle.eb_rules.specs.declared.scopes.Bound.TheVariants as bound
-use Rattle.eb_rules.specs.declared.shapes.Shape.{Shape}
+use Rattle.eb_rules.specs.declared.faults.{Refusal.Refusal, RuleKind.RuleKind}
+use Rattle.eb_rules.specs.declared.plans.{AuthoredField.AuthoredField, ComponentField.ComponentField, FieldPlace.FieldPlace, FindTerm.FindTerm}
+use Rattle.eb_rules.specs.declared.plans.{ReadTerm.ReadTerm, Term.Term}
+use Rattle.eb_rules.specs.declared.{finds.Named.Named, scopes.Bound.Bound, shapes.Shape.Shape, typing.Resolved.Resolved, walking.WalkError.WalkError}
+use Rattle.eb_rules.specs.declared.plans.FindTerm.TheVariants as found
+use Rattle.eb_rules.specs.declared.plans.ReadTerm.TheVariants as value
+use Rattle.eb_rules.specs.declared.plans.Term.TheVariants as t
 use Rattle.eb_rules.specs.declared.shapes.Shape.TheVariants as shape
-use Rattle.eb_rules.specs.Shapes.{shape_of, number_of, is_ref, is_asset, same_shape, of_op, of_minus, of_not, of_fix, of_int}
-use Rattle.eb_rules.specs.Scopes.{Text, Where, field_kind, authoring_fields, component_fields, is_in_all, bound_of}
-use Rattle.eb_schema.specs.Schemas.{Types, component_named}
+use Rattle.eb_rules.specs.declared.walking.WalkError.TheVariants as stop
+use Rattle.eb_rules.specs.Shapes.{fits, found_shape, read_shape, of_op, of_minus, of_not, of_fix, of_int}
+use Rattle.eb_rules.specs.Scopes.{Text, Where, field_in, authoring_fields, component_fields, is_in_all, bound_of, place_of, as_value, as_entity}
 
 abbrev pub Places : Type 0
 Places = List ℕ
@@ -36,198 +35,195 @@ refused kind p = record { kind = kind; at = here p }
 abbrev pub Found : Type 0 → Type 0
 Found A = Result A Refusal
 
--- ---- fields. The numbers say how many tokens before a name stand
-
-abbrev pub known_kind : Option Kind → Places → Found Kind
-known_kind (Some k) p = Ok k
-known_kind None p = Err (refused UnknownName p)
-
-abbrev pub field_at : Option (List Field) → Text → ℕ → ℕ → Places → Found Kind
-field_at None field kind_at at p = Err (refused UnknownName (drop kind_at p))
-field_at (Some fields) field kind_at at p = known_kind (field_kind field fields) (drop at p)
-
--- T.f of an authoring type
-abbrev pub authored : Where → FieldPath → ℕ → ℕ → Places → Found Kind
-authored w x kind_at at p = field_at (authoring_fields w.types x.kind) x.field kind_at at p
-
-abbrev pub numbered_field : Types → Option ℕ → Text → ℕ → ℕ → Places → Found Kind
-numbered_field types None field kind_at at p = Err (refused UnknownName (drop kind_at p))
-numbered_field types (Some n) field kind_at at p = field_at (component_fields types n) field kind_at at p
-
--- T.f of a component type
-abbrev pub of_component : Where → FieldPath → ℕ → ℕ → Places → Found Kind
-of_component w x kind_at at p = numbered_field w.types (component_named w.types x.kind) x.field kind_at at p
-
-abbrev pub asked_where : Where → Bool → ℕ → Text → ℕ → ℕ → Places → Found Kind
-asked_where w true n field kind_at at p = field_at (component_fields w.types n) field kind_at at p
-asked_where w false n field kind_at at p = Err (refused TypeFault (drop kind_at p))
-
-abbrev pub asked_by : Where → Option ℕ → Text → ℕ → ℕ → Places → Found Kind
-asked_by w None field kind_at at p = Err (refused UnknownName (drop kind_at p))
-asked_by w (Some n) field kind_at at p = asked_where w (is_in_all n w.all) n field kind_at at p
-
--- T.f of a component type that the query asks for
-abbrev pub asked : Where → FieldPath → ℕ → ℕ → Places → Found Kind
-asked w x kind_at at p = asked_by w (component_named w.types x.kind) x.field kind_at at p
-
--- a type's name alone
-abbrev pub type_at : Bool → ℕ → Places → Found Shape
-type_at true at p = Ok shape.Int
-type_at false at p = Err (refused UnknownName (drop at p))
-
--- ---- reads that go on with `or`
+-- what a part of a tree is resolved to, and the places behind it
+abbrev pub Walked : Type 0 → Type 0
+Walked A = Found (A × Places)
 
 abbrev pub and_found : {A B : Type 0} → Found A → (A → Found B) → Found B
 and_found (Ok a) g = g a
 and_found (Err x) g = Err x
 
-abbrev pub only_where : Bool → Option Shape → Option Shape
-only_where true s = s
-only_where false s = None
+-- what there must be, or the refusal
+abbrev pub required : {A : Type 0} → RuleKind → Option A → Places → Found A
+required kind (Some a) p = Ok a
+required kind None p = Err (refused kind p)
 
--- The shape of a number that the read finds; none where it breaks its rule.
-abbrev pub find_shape : Where → Find → Places → Found (Option Shape)
-find_shape w (f.Own x) p = and_found (authored w x 2 5 p) (λ k. Ok (number_of k))
-find_shape w (f.Parent x) p = and_found (authored w x 2 5 p) (λ k. Ok (number_of k))
-find_shape w (f.Asset a field) p =
-    and_found (known_kind (field_kind a w.own) (drop 4 p)) (λ k. and_found (known_kind (field_kind field w.types.assets) (drop 7 p)) (λ n. Ok (only_where (is_asset k) (number_of n))))
-find_shape w (f.Min over x) p = and_found (authored w x 3 6 p) (λ k. Ok (number_of k))
-find_shape w (f.Max over x) p = and_found (authored w x 3 6 p) (λ k. Ok (number_of k))
-find_shape w (f.At link x) p = and_found (asked w link 4 6 p) (λ k. and_found (of_component w x 9 11 p) (λ n. Ok (only_where (is_ref k) (number_of n))))
-find_shape w (f.MaxAll x) p = and_found (of_component w x 3 5 p) (λ k. Ok (number_of k))
+-- what must hold, or the refusal
+abbrev pub tested : RuleKind → Bool → Places → Found (Unit {0})
+tested kind true p = Ok tt
+tested kind false p = Err (refused kind p)
 
--- how many tokens it has, `or` included
-abbrev pub find_tokens : Find → ℕ
-find_tokens (f.Own x) = 7
-find_tokens (f.Parent x) = 7
-find_tokens (f.Asset a field) = 9
-find_tokens (f.Min over x) = 8
-find_tokens (f.Max over x) = 8
-find_tokens (f.At link x) = 13
-find_tokens (f.MaxAll x) = 8
+-- what functions ensure of a refusal: it is the definition's, unless memory fails
+abbrev pub Stops : {A : Type 0} → Found A → WalkError → Type 0
+Stops told stop.Memory = Unit {0}
+Stops told (stop.Refused x) = told ≡ Err x
 
--- the names of all reads in the order of the text, and the places behind them
-abbrev pub find_names : Where → List Find → Places → Found Places
-find_names w [] p = Ok p
-find_names w (x ∷ xs) p = and_found (find_shape w x p) (λ s. find_names w xs (drop (find_tokens x) p))
+-- What functions that walk ensure: what they answer is the definition's, unless memory fails.
+abbrev pub Walks : {A B : Type 0} → Walked A → (B → A × Places) → Result B WalkError → Type 0
+Walks told answer (Ok b) = told ≡ Ok (answer b)
+Walks told answer (Err e) = Stops told e
 
-abbrev pub agrees : Found (Option Shape) → Shape → Bool
-agrees (Ok (Some s)) t = same_shape s t
-agrees (Ok None) t = false
-agrees (Err x) t = false
+-- ---- names. How many tokens of a spelling stand before a name in it, before which so many names stand
 
--- the innermost read that doesn't find what stands behind the last `or`
-abbrev pub innermost : Where → Shape → List Find → Places → Option ℕ → Option ℕ
-innermost w t [] p found = found
-innermost w t (x ∷ xs) p found = innermost w t xs (drop (find_tokens x) p) (if agrees (find_shape w x p) t then found else Some (here p))
+abbrev pub name_at : ℕ → Input → ℕ
+name_at k [] = 0
+name_at zero (l.Name x ∷ i) = 0
+name_at (suc k) (l.Name x ∷ i) = suc (name_at k i)
+name_at k (l.Underscored ∷ i) = suc (name_at k i)
+name_at k (l.Int n ∷ i) = suc (name_at k i)
+name_at k (l.Fix n ∷ i) = suc (name_at k i)
+name_at k (l.Mark s ∷ i) = suc (name_at k i)
+
+-- the places from the k-th name of a spelling on
+abbrev pub at_name : ℕ → Input → Places → Places
+at_name k i p = drop (name_at k i) p
+
+abbrev pub authored_field : ℕ → FieldPlace → AuthoredField
+authored_field n x = record { kind = n; field = x }
+
+abbrev pub component_field : ℕ → FieldPlace → ComponentField
+component_field n x = record { kind = n; field = x }
+
+-- T.f of an authoring type: T stands at the first places, and f at the others
+abbrev pub authored : Where → FieldPath → Places → Places → Found AuthoredField
+authored w x p q = and_found (required UnknownName (authoring_named w.types x.kind) p) (λ n.
+    and_found (required UnknownName (field_in x.field (authoring_fields w.types n)) q) (λ k. Ok (authored_field n k)))
+
+abbrev pub numbered : Where → ℕ → Text → Places → Found ComponentField
+numbered w n field q = and_found (required UnknownName (field_in field (component_fields w.types n)) q) (λ k. Ok (component_field n k))
+
+-- T.f of a component type
+abbrev pub of_component : Where → FieldPath → Places → Places → Found ComponentField
+of_component w x p q = and_found (required UnknownName (component_named w.types x.kind) p) (λ n. numbered w n x.field q)
+
+-- T.f of a component type that the query asks for
+abbrev pub asked : Where → FieldPath → Places → Places → Found ComponentField
+asked w x p q = and_found (required UnknownName (component_named w.types x.kind) p) (λ n. and_found (tested TypeFault (is_in_all n w.all) p) (λ u.
+    numbered w n x.field q))
+
+-- ---- reads that go on with `or`
+
+-- the names of a read
+abbrev pub find_named : Where → Find → Input → Places → Found FindTerm
+find_named w (f.Own x) i p = and_found (authored w x (at_name 0 i p) (at_name 1 i p)) (λ y. Ok (found.Own y))
+find_named w (f.Parent x) i p = and_found (authored w x (at_name 0 i p) (at_name 1 i p)) (λ y. Ok (found.Parent y))
+find_named w (f.Asset a x) i p = and_found (required UnknownName (field_in a w.own) (at_name 0 i p)) (λ y.
+    and_found (required UnknownName (field_in x w.types.assets) (at_name 1 i p)) (λ z. Ok (found.Asset y z)))
+find_named w (f.Min over x) i p = and_found (authored w x (at_name 0 i p) (at_name 1 i p)) (λ y. Ok (found.Min over y))
+find_named w (f.Max over x) i p = and_found (authored w x (at_name 0 i p) (at_name 1 i p)) (λ y. Ok (found.Max over y))
+find_named w (f.At link x) i p = and_found (asked w link (at_name 0 i p) (at_name 1 i p)) (λ y.
+    and_found (of_component w x (at_name 2 i p) (at_name 3 i p)) (λ z. Ok (found.At y z)))
+find_named w (f.MaxAll x) i p = and_found (of_component w x (at_name 0 i p) (at_name 1 i p)) (λ y. Ok (found.MaxAll y))
+
+-- the names at their places in the read's own spelling
+abbrev pub find_walk : Where → Find → Places → Found FindTerm
+find_walk w x p = find_named w x (find_then x []) p
+
+abbrev pub named : FindTerm → Places → Named
+named y p = record { term = y; at = here p }
+
+-- the names of all reads in the order of the text
+abbrev pub finds_named : Where → List Find → List Named → Places → Walked (List Named)
+finds_named w [] done p = Ok (done, p)
+finds_named w (x ∷ xs) done p = and_found (find_walk w x p) (λ y. finds_named w xs (done ++ named y p ∷ []) (drop (find_tokens x) p))
+
+-- where the innermost read begins that doesn't find what stands behind the last `or`
+abbrev pub innermost : Shape → List Named → Option ℕ → Option ℕ
+innermost s [] at = at
+innermost s (x ∷ xs) at = innermost s xs (if fits (found_shape x.term) s then at else Some x.at)
 
 -- ---- reads that always have a value
 
-abbrev pub whole_read : Option Shape → Places → Found Shape
-whole_read (Some s) p = Ok s
-whole_read None p = Err (refused TypeFault p)
+abbrev pub typed_as : Term → Shape → Resolved
+typed_as y s = record { term = y; shape = s }
 
-abbrev pub entity_of : Option Bound → Places → Found Shape
-entity_of None p = Err (refused UnknownName (drop 2 p))
-entity_of (Some (bound.Value s)) p = Err (refused TypeFault (drop 2 p))
-entity_of (Some bound.Entity) p = Ok shape.Ref
+abbrev pub whole_read : ReadTerm → Places → Found Resolved
+whole_read y p = and_found (required TypeFault (read_shape y) p) (λ s. Ok (typed_as (t.Read y) s))
 
-abbrev pub ref_where : Bool → Option Shape
-ref_where true = Some shape.Ref
-ref_where false = None
+-- what a visible name is, as a value or in the place of an entity
+abbrev pub visible : (Bound → Option Shape) → Where → Text → Places → Found Shape
+visible may w x p = and_found (required UnknownName (bound_of x w.known) p) (λ b. required TypeFault (may b) p)
 
-abbrev pub is_known : {A : Type 0} → Option A → Bool
-is_known (Some a) = true
-is_known None = false
+abbrev pub name_typed : (Bound → Option Shape) → Where → Text → Places → Found Resolved
+name_typed may w x p = and_found (visible may w x p) (λ s. Ok (typed_as (t.Name (place_of x w.known)) s))
 
-abbrev pub read_shape : Where → Read → Places → Found Shape
-read_shape w (r.This x) p = and_found (known_kind (field_kind x w.own) (drop 2 p)) (λ k. whole_read (number_of k) p)
-read_shape w (r.Field x) p = and_found (asked w x 2 4 p) (λ k. whole_read (shape_of k) p)
-read_shape w (r.Sum over x) p = and_found (authored w x 3 6 p) (λ k. whole_read (number_of k) p)
-read_shape w (r.Count over kind) p = type_at (is_known (authoring_fields w.types kind)) 3 p
-read_shape w (r.SumAll x) p = and_found (of_component w x 3 5 p) (λ k. whole_read (number_of k) p)
-read_shape w (r.CountAll kind) p = type_at (is_known (component_named w.types kind)) 3 p
-read_shape w r.Entity p = Ok shape.Ref
-read_shape w (r.EntityAt x) p = and_found (known_kind (field_kind x w.own) (drop 4 p)) (λ k. whole_read (ref_where (is_ref k)) p)
-read_shape w (r.EntityOf x) p = entity_of (bound_of x w.known) p
+-- the names of a read first, and then the whole
+abbrev pub read_typed : Where → Read → Input → Places → Found Resolved
+read_typed w (r.This x) i p = and_found (required UnknownName (field_in x w.own) (at_name 0 i p)) (λ y. whole_read (value.This y) p)
+read_typed w (r.Field x) i p = and_found (asked w x (at_name 0 i p) (at_name 1 i p)) (λ y. whole_read (value.Field y) p)
+read_typed w (r.Sum over x) i p = and_found (authored w x (at_name 0 i p) (at_name 1 i p)) (λ y. whole_read (value.Sum over y) p)
+read_typed w (r.Count over kind) i p = and_found (required UnknownName (authoring_named w.types kind) (at_name 0 i p)) (λ y. whole_read (value.Count over y) p)
+read_typed w (r.SumAll x) i p = and_found (of_component w x (at_name 0 i p) (at_name 1 i p)) (λ y. whole_read (value.SumAll y) p)
+read_typed w (r.CountAll kind) i p = and_found (required UnknownName (component_named w.types kind) (at_name 0 i p)) (λ y. whole_read (value.CountAll y) p)
+read_typed w r.Entity i p = whole_read value.Entity p
+read_typed w (r.EntityAt x) i p = and_found (required UnknownName (field_in x w.own) (at_name 0 i p)) (λ y. whole_read (value.EntityAt y) p)
+read_typed w (r.EntityOf x) i p = name_typed as_entity w x (at_name 0 i p)
 
-abbrev pub read_tokens : Read → ℕ
-read_tokens (r.This x) = 3
-read_tokens (r.Field x) = 5
-read_tokens (r.Sum over x) = 7
-read_tokens (r.Count over kind) = 5
-read_tokens (r.SumAll x) = 7
-read_tokens (r.CountAll kind) = 5
-read_tokens r.Entity = 4
-read_tokens (r.EntityAt x) = 6
-read_tokens (r.EntityOf x) = 4
+abbrev pub read_walk : Where → Read → Places → Found Resolved
+read_walk w x p = read_typed w x (read_then x []) p
 
 -- ---- expressions
 
--- a shape, and the places behind the expression
-abbrev pub Typed : Type 0
-Typed = Found (Shape × Places)
-
 abbrev pub Typer : Type 0
-Typer = Places → Typed
+Typer = Places → Walked Resolved
 
-abbrev pub onward : Typed → (Shape → Places → Typed) → Typed
-onward (Ok q) g = g q.0 q.1
-onward (Err x) g = Err x
+-- what the construct at p makes of its operand, which ends at q
+abbrev pub made : Option Shape → Term → Places → Places → Walked Resolved
+made s y p q = and_found (required TypeFault s p) (λ k. Ok (typed_as y k, q))
 
--- a shape that the construct at p may have, or the fault of the whole
-abbrev pub allowed : Option Shape → Places → Places → Typed
-allowed (Some s) p q = Ok (s, q)
-allowed None p q = Err (refused TypeFault p)
+-- a read or a name, and how many tokens it has
+abbrev pub ends : ℕ → Found Resolved → Places → Walked Resolved
+ends n found p = and_found found (λ y. Ok (y, drop n p))
 
-abbrev pub name_shape : Option Bound → Places → Typed
-name_shape None p = Err (refused UnknownName p)
-name_shape (Some (bound.Value s)) p = Ok (s, drop 1 p)
-name_shape (Some bound.Entity) p = Err (refused TypeFault p)
+abbrev pub link_of : Op → Term → Link Term
+link_of o y = record { op = o; right = y }
 
-abbrev pub read_typed : Found Shape → Places → Typed
-read_typed (Ok s) q = Ok (s, q)
-read_typed (Err x) q = Err x
+abbrev pub Links : Type 0
+Links = Walked (List (Link Term) × Shape)
 
--- a chain of which the operands so far have this shape
-abbrev pub links_typed : List (Link Typer) → Shape → Places → Places → Typed
-links_typed [] s p q = Ok (s, q)
-links_typed (x ∷ xs) s p q = onward (x.right (drop 1 q)) (λ t n. onward (allowed (of_op x.op s t) p n) (λ made m. links_typed xs made p m))
+-- a chain that begins at p, of which the operands so far have this shape
+abbrev pub links_typed : List (Link Typer) → Shape → List (Link Term) → Places → Places → Links
+links_typed [] s done p q = Ok ((done, s), q)
+links_typed (x ∷ xs) s done p q = and_found (x.right (drop 1 q)) (λ y. and_found (required TypeFault (of_op x.op s y.0.shape) p) (λ k.
+    links_typed xs k (done ++ link_of x.op y.0.term ∷ []) p y.1))
 
-abbrev pub agreed : Option ℕ → Shape → Places → Typed
-agreed None t q = Ok (t, q)
-agreed (Some at) t q = Err (record { kind = TypeFault; at = at })
+-- the links behind a first operand
+abbrev pub chained : Resolved → List (Link Typer) → Places → Places → Walked Resolved
+chained y more p q = and_found (links_typed more y.shape [] p q) (λ z. Ok (typed_as (t.Chain y.term z.0.0) z.0.1, z.1))
 
-abbrev pub behind_names : Found Places → (Places → Typed) → Typed
-behind_names (Ok q) g = g q
-behind_names (Err x) g = Err x
+abbrev pub agreed : Option ℕ → Found (Unit {0})
+agreed None = Ok tt
+agreed (Some at) = Err (record { kind = TypeFault; at = at })
+
+abbrev pub terms : List Named → List FindTerm
+terms = map (λ x. x.term)
 
 -- names first, then what stands behind the last `or`, then the reads from the innermost on
 abbrev pub finds_typed : Where → List Find → Typer → Typer
-finds_typed w found last p = behind_names (find_names w found p) (λ q. onward (last q) (λ t n. agreed (innermost w t found p None) t n))
+finds_typed w finds last p =
+    and_found (finds_named w finds [] p) (λ n. and_found (last n.1) (λ y. and_found (agreed (innermost y.0.shape n.0 None)) (λ u.
+    Ok (typed_as (t.Find (terms n.0) y.0.term) y.0.shape, y.1))))
 
 abbrev pub typed_step : Where → Expr-F Typer → Typer
-typed_step w (Expr-F.Int n) p = Ok (shape.Int, drop 1 p)
-typed_step w (Expr-F.Fix n) p = Ok (shape.Fix, drop 1 p)
-typed_step w Expr-F.True p = Ok (shape.Bool, drop 1 p)
-typed_step w Expr-F.False p = Ok (shape.Bool, drop 1 p)
-typed_step w Expr-F.Null p = Ok (shape.Ref, drop 1 p)
-typed_step w (Expr-F.Name x) p = name_shape (bound_of x w.known) p
-typed_step w (Expr-F.Paren x) p = onward (x (drop 1 p)) (λ s q. Ok (s, drop 1 q))
-typed_step w (Expr-F.ToFix x) p = onward (x (drop 2 p)) (λ s q. allowed (of_fix s) p (drop 1 q))
-typed_step w (Expr-F.ToInt x) p = onward (x (drop 2 p)) (λ s q. allowed (of_int s) p (drop 1 q))
-typed_step w (Expr-F.Read x) p = read_typed (read_shape w x p) (drop (read_tokens x) p)
-typed_step w (Expr-F.Find found x) p = finds_typed w found x p
-typed_step w (Expr-F.Negate x) p = onward (x (drop 1 p)) (λ s q. allowed (of_minus s) p q)
-typed_step w (Expr-F.Not x) p = onward (x (drop 1 p)) (λ s q. allowed (of_not s) p q)
-typed_step w (Expr-F.Chain first more) p = onward (first p) (λ s q. links_typed more s p q)
+typed_step w (Expr-F.Int n) p = Ok (typed_as (t.Int n) shape.Int, drop 1 p)
+typed_step w (Expr-F.Fix n) p = Ok (typed_as (t.Fix n) shape.Fix, drop 1 p)
+typed_step w Expr-F.True p = Ok (typed_as t.True shape.Bool, drop 1 p)
+typed_step w Expr-F.False p = Ok (typed_as t.False shape.Bool, drop 1 p)
+typed_step w Expr-F.Null p = Ok (typed_as t.Null shape.Ref, drop 1 p)
+typed_step w (Expr-F.Name x) p = ends 1 (name_typed as_value w x p) p
+typed_step w (Expr-F.Paren x) p = and_found (x (drop 1 p)) (λ y. Ok (y.0, drop 1 y.1))
+typed_step w (Expr-F.ToFix x) p = and_found (x (drop 2 p)) (λ y. made (of_fix y.0.shape) (t.ToFix y.0.term) p (drop 1 y.1))
+typed_step w (Expr-F.ToInt x) p = and_found (x (drop 2 p)) (λ y. made (of_int y.0.shape) (t.ToInt y.0.term) p (drop 1 y.1))
+typed_step w (Expr-F.Read x) p = ends (read_tokens x) (read_walk w x p) p
+typed_step w (Expr-F.Find finds x) p = finds_typed w finds x p
+typed_step w (Expr-F.Negate x) p = and_found (x (drop 1 p)) (λ y. made (of_minus y.0.shape) (t.Negate y.0.term) p y.1)
+typed_step w (Expr-F.Not x) p = and_found (x (drop 1 p)) (λ y. made (of_not y.0.shape) (t.Not y.0.term) p y.1)
+typed_step w (Expr-F.Chain first more) p = and_found (first p) (λ y. chained y.0 more p y.1)
 
--- the shape of an expression, or its first fault
+-- an expression resolved, or its first fault
 unfoldable pub typed : Where → Expr → Typer
 typed w = fold-Expr Typer (typed_step w)
 
 -- a link whose operand is typed
 abbrev pub typed_link : Where → Link Expr → Link Typer
 typed_link w x = record { op = x.op; right = typed w x.right }
-
--- ---- what functions ensure: the answer of the definition

@@ -1,109 +1,113 @@
-// Names and types of a job's commands.
-ghost use Rattle.std.specs.Prelude.{◌≡◌, ◌+◌, ◌≤◌, [], MatchResult, Ok, Err, OnOk};
+// Names and types of a job's commands, and what they are resolved to.
+ghost use Rattle.std.specs.Prelude.{◌≡◌, ◌+◌, ◌≤◌, ◌++◌, [], drop, MatchResult, Ok, Err, OnOk};
+ghost use Rattle.eb_rule_text.specs.Counts as counts;
 ghost use Rattle.eb_rules.specs.Jobs as spec;
-ghost use Rattle.eb_rules.specs.Shapes as shapes;
-ghost use Rattle.eb_rules.specs.Statements.{Stops};
-ghost use Rattle.eb_schema.specs.Schemas.{component_named};
+ghost use Rattle.eb_rules.specs.Typing.{Walks};
 
 use crate::faults::{Refusal, RuleKind};
-use crate::fields::{asked, component_fields, find_bound, past, refused};
-use crate::finds::is_ref;
-use crate::inits::inits_typed;
+use crate::fields::{asked, known, past, tested};
+use crate::inits::values_typed;
+use crate::plans::{Addition, Aim, Order};
+use crate::reads::is_entity;
 use crate::scopes::{Bound, Scope, Visible};
+use crate::shapes::is_ref;
+use crate::statements::is_free;
 use crate::walking::WalkError;
 use eb_base::{Memory, Text, TypeNo};
 use eb_rule_names::VisibleNames;
-use eb_rule_text::{Command, Init, Target};
+use eb_rule_text::{Command, Context, Init, Target};
 use eb_schema::Schema;
+use sqlite_items::Items;
 use std::alloc::Global;
 
 // How many commands a job may have.
 const MOST_COMMANDS: usize = 8;
 
-fn name_target(bound: Option<Bound>, places: &[usize]) -> Result<&[usize], Refusal>
-    ensures { MatchResult result (λ q. spec.name_target bound places.now ≡ Ok q.now) (λ x. spec.name_target bound places.now ≡ Err x) }
-{
-    match bound {
-        None => Err(refused(RuleKind::UnknownName, places)),
-        Some(Bound::Value(_)) => Err(refused(RuleKind::TypeFault, places)),
-        Some(Bound::Entity) => Ok(past(places, 1)),
-    }
-}
-
-fn target_typed<'p>(
-    scope: &Scope<'_, '_>,
-    target: &Target,
-    places: &'p [usize],
-) -> Result<&'p [usize], Refusal>
-    ensures { MatchResult result (λ q. spec.target_typed scope.now target.now places.now ≡ Ok q.now) (λ x. spec.target_typed scope.now target.now places.now ≡ Err x) }
+fn aim_walk(scope: &Scope<'_, '_>, target: &Target, places: &[usize]) -> Result<Aim, Refusal>
+    ensures { result ≡ spec.aim_walk scope.now target.now places.now }
 {
     match target {
-        Target::This => Ok(past(places, 1)),
-        Target::Name(name) => name_target(find_bound(name.bytes(), scope.known), places),
+        Target::This => Ok(Aim::This),
+        Target::Name(name) => {
+            is_entity(scope, name, places)?;
+            Ok(Aim::Created(scope.known.place(name.bytes())))
+        }
         Target::At(link) => {
-            let kind = asked(scope, link, 4, 6, places)?;
-            if is_ref(kind) {
-                Ok(past(places, 8))
-            } else {
-                Err(refused(RuleKind::TypeFault, places))
-            }
+            let link = asked(scope, link, past(places, 4), past(places, 6))?;
+            tested(RuleKind::TypeFault, is_ref(link.field.kind), places)?;
+            Ok(Aim::At(link))
         }
     }
 }
 
-fn kind_known(schema: &Schema, kind: &Text, places: &[usize]) -> Result<TypeNo, Refusal>
-    ensures { result ≡ spec.kind_known (component_named schema.now kind.now) places.now }
+// How many tokens it has.
+fn target_tokens(target: &Target) -> usize
+    ensures { result ≡ counts.target_tokens target.now }
 {
-    match schema.component_named(kind.bytes()) {
-        None => Err(refused(RuleKind::UnknownName, places)),
-        Some(number) => Ok(number),
+    match target {
+        Target::This => 1,
+        Target::Name(_) => 1,
+        Target::At(_) => 8,
     }
 }
 
+// The places behind a target that stands behind the first word of a command.
+fn behind_target<'p>(target: &Target, places: &'p [usize]) -> &'p [usize]
+    ensures { result.now ≡ drop (counts.target_tokens target.now) (drop 1 places.now) }
+{
+    past(past(places, 1), target_tokens(target))
+}
+
 // T { .. }
-fn values_typed<'p>(
+fn filled<'p>(
+    alloc: Global,
     scope: &Scope<'_, '_>,
     kind: &Text,
     inits: &[Init],
     places: &'p [usize],
-) -> Result<&'p [usize], Refusal>
-    ensures { MatchResult result (λ q. spec.values_typed scope.now kind.now inits.now places.now ≡ Ok q.now) (λ x. spec.values_typed scope.now kind.now inits.now places.now ≡ Err x) }
+) -> Result<(Addition, &'p [usize]), WalkError>
+    ensures { Walks (spec.filled scope.now kind.now inits.now places.now) (λ q. (q.0, q.1.now)) result }
 {
-    let number = kind_known(scope.schema, kind, places)?;
-    match component_fields(scope.schema, number) {
-        None => Err(refused(RuleKind::UnknownName, places)),
-        Some(fields) => inits_typed(scope, fields, inits, past(places, 2)),
-    }
+    let number = known(scope.schema.component_named(kind.bytes()), places)?;
+    let (made, rest) = values_typed(alloc, scope, number, inits, past(places, 1))?;
+    Ok((made, rest))
 }
 
 fn command_typed<'p>(
+    alloc: Global,
     scope: &Scope<'_, '_>,
     command: &Command,
     places: &'p [usize],
-) -> Result<&'p [usize], Refusal>
-    ensures { MatchResult result (λ q. spec.command_typed scope.now command.now places.now ≡ Ok q.now) (λ x. spec.command_typed scope.now command.now places.now ≡ Err x) }
+) -> Result<(Order, &'p [usize]), WalkError>
+    ensures { Walks (spec.command_typed scope.now command.now places.now) (λ q. (q.0, q.1.now)) result }
 {
     match command {
         Command::Create(name) => {
-            if find_bound(name.bytes(), scope.known).is_some() {
-                Err(refused(RuleKind::NameTaken, past(places, 1)))
-            } else {
-                Ok(past(places, 2))
-            }
+            let free = is_free(name, scope.known);
+            tested(RuleKind::NameTaken, free, past(places, 1))?;
+            Ok((Order::Create, past(places, 2)))
         }
-        Command::Destroy(on) => target_typed(scope, on, past(places, 1)),
+        Command::Destroy(on) => {
+            let aim = aim_walk(scope, on, past(places, 1))?;
+            Ok((Order::Destroy(aim), behind_target(on, places)))
+        }
         Command::Remove(on, kind) => {
-            let rest = target_typed(scope, on, past(places, 1))?;
-            kind_known(scope.schema, kind, rest)?;
-            Ok(past(rest, 1))
+            let aim = aim_walk(scope, on, past(places, 1))?;
+            let rest = behind_target(on, places);
+            let number = known(scope.schema.component_named(kind.bytes()), rest)?;
+            Ok((Order::Remove(aim, number), past(rest, 1)))
         }
         Command::Add(on, kind, inits) => {
-            let rest = target_typed(scope, on, past(places, 1))?;
-            values_typed(scope, kind, inits.as_slice(), rest)
+            let aim = aim_walk(scope, on, past(places, 1))?;
+            let rest = behind_target(on, places);
+            let (made, rest) = filled(alloc, scope, kind, inits.as_slice(), rest)?;
+            Ok((Order::Add(aim, made), rest))
         }
         Command::Set(on, kind, inits) => {
-            let rest = target_typed(scope, on, past(places, 1))?;
-            values_typed(scope, kind, inits.as_slice(), rest)
+            let aim = aim_walk(scope, on, past(places, 1))?;
+            let rest = behind_target(on, places);
+            let (made, rest) = filled(alloc, scope, kind, inits.as_slice(), rest)?;
+            Ok((Order::Set(aim, made), rest))
         }
     }
 }
@@ -118,25 +122,11 @@ pub fn job_scope<'g, 'k>(
 {
     Scope {
         schema,
+        context: Context::Job,
         own: &[],
         all,
         known,
     }
-}
-
-fn roomy_command<'p>(
-    full: bool,
-    scope: &Scope<'_, '_>,
-    command: &Command,
-    places: &'p [usize],
-) -> Result<&'p [usize], Refusal>
-    ensures { MatchResult result (λ q. spec.roomy_command full scope.now command.now places.now ≡ Ok q.now) (λ x. spec.roomy_command full scope.now command.now places.now ≡ Err x) }
-{
-    if full {
-        return Err(refused(RuleKind::TooMany, places));
-    }
-    let rest = command_typed(scope, command, places)?;
-    Ok(rest)
 }
 
 // A created name is visible in the commands behind it.
@@ -169,15 +159,20 @@ pub fn commands_typed<'p>(
     all: &[TypeNo],
     commands: &[Command],
     places: &'p [usize],
-) -> Result<&'p [usize], WalkError>
-    ensures { MatchResult result (λ q. spec.commands_typed schema.now all.now commands.now 0 [] places.now ≡ Ok q.now) (λ e. Stops (spec.commands_typed schema.now all.now commands.now 0 [] places.now) e) }
+) -> Result<(Items<Order>, &'p [usize]), WalkError>
+    ensures { Walks (spec.commands_typed schema.now all.now commands.now 0 [] [] places.now) (λ q. (q.0, q.1.now)) result }
 {
     let mut known = VisibleNames::new(alloc);
+    let mut done = Items::new(alloc);
     let mut rest = places;
     for at in 0..commands.len() {
+        let command = &commands[at];
+        tested(RuleKind::TooMany, at < MOST_COMMANDS, rest)?;
         let scope = job_scope(schema, all, &known);
-        rest = roomy_command(at >= MOST_COMMANDS, &scope, &commands[at], rest)?;
-        note(alloc, &commands[at], &mut known)?;
+        let (order, behind) = command_typed(alloc, &scope, command, rest)?;
+        done.push(order)?;
+        note(alloc, command, &mut known)?;
+        rest = behind;
     }
-    Ok(rest)
+    Ok((done, rest))
 }

@@ -1,12 +1,12 @@
 // The look-up of types, fields and visible names.
 ghost use Rattle.std.specs.Prelude.{◌≡◌, drop};
-ghost use Rattle.std.specs.Option.{option_copied};
 ghost use Rattle.eb_rules.specs.Scopes as scopes;
 ghost use Rattle.eb_rules.specs.Typing as spec;
 
 use crate::faults::{Refusal, RuleKind};
+use crate::plans::{AuthoredField, ComponentField, FieldPlace};
 use crate::scopes::{Bound, Scope, Visible};
-use eb_base::{Text, TypeNo};
+use eb_base::{AuthorNo, Text, TypeNo};
 use eb_rule_names::VisibleNames;
 use eb_rule_text::FieldPath;
 use eb_schema::{Field, Kind, Schema};
@@ -42,7 +42,8 @@ pub fn refused(kind: RuleKind, places: &[usize]) -> Refusal
     }
 }
 
-fn find_field(name: &[u8], fields: &[Field]) -> Option<Kind>
+/// The kind of the field of a name, where there is one.
+pub fn find_field(name: &[u8], fields: &[Field]) -> Option<Kind>
     ensures { result ≡ scopes.field_kind name.now fields.now }
 {
     for field in fields {
@@ -53,14 +54,56 @@ fn find_field(name: &[u8], fields: &[Field]) -> Option<Kind>
     None
 }
 
-/// The kind of a field whose name stands at the next token.
-pub fn known_kind(name: &Text, fields: &[Field], places: &[usize]) -> Result<Kind, Refusal>
-    ensures { result ≡ spec.known_kind (scopes.field_kind name.now fields.now) places.now }
+fn field_place(name: &[u8], fields: &[Field]) -> usize
+    ensures { result ≡ scopes.field_place name.now fields.now }
+{
+    for at in 0..fields.len() {
+        if name == fields[at].name.bytes() {
+            return at;
+        }
+    }
+    fields.len()
+}
+
+/// The field of a name, where there is one.
+pub fn field_in(name: &Text, fields: &[Field]) -> Option<FieldPlace>
+    ensures { result ≡ scopes.field_in name.now fields.now }
 {
     match find_field(name.bytes(), fields) {
-        Some(kind) => Ok(kind),
-        None => Err(refused(RuleKind::UnknownName, places)),
+        None => None,
+        Some(kind) => Some(FieldPlace {
+            place: field_place(name.bytes(), fields),
+            kind,
+        }),
     }
+}
+
+/// What there must be, or the refusal at the next token.
+pub fn required<T: Copy>(kind: RuleKind, found: Option<T>, places: &[usize]) -> Result<T, Refusal>
+    ensures { result ≡ spec.required kind found places.now }
+{
+    match found {
+        Some(found) => Ok(found),
+        None => Err(refused(kind, places)),
+    }
+}
+
+/// What must hold, or the refusal at the next token.
+pub fn tested(kind: RuleKind, holds: bool, places: &[usize]) -> Result<(), Refusal>
+    ensures { result ≡ spec.tested kind holds places.now }
+{
+    if holds {
+        Ok(())
+    } else {
+        Err(refused(kind, places))
+    }
+}
+
+/// What a name of a type or a field is, or that it is none.
+pub fn known<T: Copy>(found: Option<T>, places: &[usize]) -> Result<T, Refusal>
+    ensures { result ≡ spec.required RuleKind.UnknownName found places.now }
+{
+    required(RuleKind::UnknownName, found, places)
 }
 
 /// What a visible name stands for.
@@ -85,98 +128,85 @@ pub fn is_in_all(kind: TypeNo, all: &[TypeNo]) -> bool
     false
 }
 
-/// The fields of the authoring type of a name.
-pub fn authoring_fields<'s>(schema: &'s Schema, name: &[u8]) -> Option<&'s [Field]>
-    ensures { option_copied result ≡ scopes.authoring_fields schema.now name.now }
+/// The fields of an authoring type.
+pub fn authoring_fields(schema: &Schema, number: AuthorNo) -> &[Field]
+    ensures { result.now ≡ scopes.authoring_fields schema.now number }
 {
-    match schema.authoring_named(name) {
-        None => None,
-        Some(number) => match schema.authoring(number) {
-            None => None,
-            Some(found) => Some(found.fields.items()),
-        },
+    match schema.authoring(number) {
+        Some(found) => found.fields.items(),
+        None => &[],
     }
 }
 
-pub fn component_fields(schema: &Schema, number: TypeNo) -> Option<&[Field]>
-    ensures { option_copied result ≡ scopes.component_fields schema.now number }
+/// The fields of a component type.
+#[tactic(auto, unfolding(crate::specs::Scopes::component_fields))]
+pub fn component_fields(schema: &Schema, number: TypeNo) -> &[Field]
+    ensures { result.now ≡ scopes.component_fields schema.now number }
 {
     match schema.component(number) {
-        None => None,
-        Some(found) => Some(found.fields.items()),
+        Some(found) => found.fields.items(),
+        None => &[],
     }
 }
 
-// The kind of a field: `UnknownName` at its type's name or at its own.
-fn field_at(
-    fields: Option<&[Field]>,
-    field: &Text,
-    kind_at: usize,
-    at: usize,
-    places: &[usize],
-) -> Result<Kind, Refusal>
-    ensures { result ≡ spec.field_at (option_copied fields.entry) field.now kind_at at places.now }
-{
-    match fields {
-        None => Err(refused(RuleKind::UnknownName, past(places, kind_at))),
-        Some(fields) => known_kind(field, fields, past(places, at)),
-    }
-}
-
-/// T.f of an authoring type.
+/// T.f of an authoring type: T stands at `kind`, and f at `places`.
 pub fn authored(
     scope: &Scope<'_, '_>,
     path: &FieldPath,
-    kind_at: usize,
-    at: usize,
+    kind: &[usize],
     places: &[usize],
-) -> Result<Kind, Refusal>
-    ensures { result ≡ spec.authored scope.now path.now kind_at at places.now }
+) -> Result<AuthoredField, Refusal>
+    ensures { result ≡ spec.authored scope.now path.now kind.now places.now }
 {
-    let fields = authoring_fields(scope.schema, path.kind.bytes());
-    field_at(fields, &path.field, kind_at, at, places)
+    let number = known(scope.schema.authoring_named(path.kind.bytes()), kind)?;
+    let fields = authoring_fields(scope.schema, number);
+    let field = known(field_in(&path.field, fields), places)?;
+    Ok(AuthoredField {
+        kind: number,
+        field,
+    })
+}
+
+// f of a component type.
+fn numbered(
+    scope: &Scope<'_, '_>,
+    number: TypeNo,
+    field: &Text,
+    places: &[usize],
+) -> Result<ComponentField, Refusal>
+    ensures { result ≡ spec.numbered scope.now number field.now places.now }
+{
+    let fields = component_fields(scope.schema, number);
+    let field = known(field_in(field, fields), places)?;
+    Ok(ComponentField {
+        kind: number,
+        field,
+    })
 }
 
 /// T.f of a component type.
 pub fn of_component(
     scope: &Scope<'_, '_>,
     path: &FieldPath,
-    kind_at: usize,
-    at: usize,
+    kind: &[usize],
     places: &[usize],
-) -> Result<Kind, Refusal>
-    ensures { result ≡ spec.of_component scope.now path.now kind_at at places.now }
+) -> Result<ComponentField, Refusal>
+    ensures { result ≡ spec.of_component scope.now path.now kind.now places.now }
 {
-    match scope.schema.component_named(path.kind.bytes()) {
-        None => Err(refused(RuleKind::UnknownName, past(places, kind_at))),
-        Some(number) => field_at(
-            component_fields(scope.schema, number),
-            &path.field,
-            kind_at,
-            at,
-            places,
-        ),
-    }
+    let number = known(scope.schema.component_named(path.kind.bytes()), kind)?;
+    numbered(scope, number, &path.field, places)
 }
 
 /// T.f of a component type that the query asks for: `TypeFault` at T where it doesn't.
 pub fn asked(
     scope: &Scope<'_, '_>,
     path: &FieldPath,
-    kind_at: usize,
-    at: usize,
+    kind: &[usize],
     places: &[usize],
-) -> Result<Kind, Refusal>
-    ensures { result ≡ spec.asked scope.now path.now kind_at at places.now }
+) -> Result<ComponentField, Refusal>
+    ensures { result ≡ spec.asked scope.now path.now kind.now places.now }
 {
-    match scope.schema.component_named(path.kind.bytes()) {
-        None => Err(refused(RuleKind::UnknownName, past(places, kind_at))),
-        Some(number) => {
-            if !is_in_all(number, scope.all) {
-                return Err(refused(RuleKind::TypeFault, past(places, kind_at)));
-            }
-            let fields = component_fields(scope.schema, number);
-            field_at(fields, &path.field, kind_at, at, places)
-        }
-    }
+    let number = known(scope.schema.component_named(path.kind.bytes()), kind)?;
+    tested(RuleKind::TypeFault, is_in_all(number, scope.all), kind)?;
+    numbered(scope, number, &path.field, places)
 }

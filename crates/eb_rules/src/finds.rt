@@ -1,84 +1,71 @@
 // Names and types of reads that go on with `or`.
-ghost use Rattle.std.specs.Prelude.{◌≡◌, None, MatchResult, Ok, Err};
-ghost use Rattle.eb_rules.specs.Shapes as shapes;
+ghost use Rattle.std.specs.Prelude.{◌≡◌, ◌++◌, [], map, None, MatchResult, Ok, Err, IfOk};
 ghost use Rattle.eb_rules.specs.Typing as spec;
+ghost use Rattle.eb_rule_text.specs.Counts as counts;
+ghost use Rattle.eb_rules.specs.Typing.{Walks};
 
-use crate::faults::Refusal;
-use crate::fields::{asked, authored, here, known_kind, of_component, past};
+use crate::faults::{Refusal, RuleKind};
+use crate::fields::{asked, authored, field_in, here, known, of_component, past};
+use crate::plans::FindTerm;
 use crate::scopes::Scope;
-use crate::shapes::{Shape, number_of, same_shape};
+use crate::shapes::{Shape, fits, found_shape};
+use crate::walking::WalkError;
+use eb_base::Memory;
 use eb_rule_text::Find;
-use eb_schema::Kind;
+use sqlite_items::Items;
+use std::alloc::Global;
 
-pub fn is_ref(kind: Kind) -> bool
-    ensures { result ≡ shapes.is_ref kind }
-{
-    match kind {
-        Kind::Ref => true,
-        _ => false,
-    }
+/// A read whose names are known, and the place of its first token.
+#[derive(Clone, Copy, Debug, PartialEq, Eq)]
+pub struct Named {
+    pub term: FindTerm,
+    pub at: usize,
 }
 
-fn is_asset(kind: Kind) -> bool
-    ensures { result ≡ shapes.is_asset kind }
-{
-    match kind {
-        Kind::Asset => true,
-        _ => false,
-    }
-}
-
-fn only_where(holds: bool, shape: Option<Shape>) -> Option<Shape>
-    ensures { result ≡ spec.only_where holds shape }
-{
-    if holds { shape } else { None }
-}
-
-// The shape of the number that the read finds, and none where it breaks its rule.
-fn find_shape(
-    scope: &Scope<'_, '_>,
-    find: &Find,
-    places: &[usize],
-) -> Result<Option<Shape>, Refusal>
-    ensures { result ≡ spec.find_shape scope.now find.now places.now }
+// The names of a read, in the order of the text.
+fn find_walk(scope: &Scope<'_, '_>, find: &Find, places: &[usize]) -> Result<FindTerm, Refusal>
+    ensures { result ≡ spec.find_walk scope.now find.now places.now }
 {
     match find {
         Find::Own(path) => {
-            let kind = authored(scope, path, 2, 5, places)?;
-            Ok(number_of(kind))
+            let field = authored(scope, path, past(places, 2), past(places, 5))?;
+            Ok(FindTerm::Own(field))
         }
         Find::Parent(path) => {
-            let kind = authored(scope, path, 2, 5, places)?;
-            Ok(number_of(kind))
+            let field = authored(scope, path, past(places, 2), past(places, 5))?;
+            Ok(FindTerm::Parent(field))
         }
         Find::Asset(link, field) => {
-            let kind = known_kind(link, scope.own, past(places, 4))?;
-            let number = known_kind(field, scope.schema.asset_fields(), past(places, 7))?;
-            Ok(only_where(is_asset(kind), number_of(number)))
+            let link = known(field_in(link, scope.own), past(places, 4))?;
+            let field = known(
+                field_in(field, scope.schema.asset_fields()),
+                past(places, 7),
+            )?;
+            Ok(FindTerm::Asset(link, field))
         }
-        Find::Min(_, path) => {
-            let kind = authored(scope, path, 3, 6, places)?;
-            Ok(number_of(kind))
+        Find::Min(over, path) => {
+            let field = authored(scope, path, past(places, 3), past(places, 6))?;
+            Ok(FindTerm::Min(*over, field))
         }
-        Find::Max(_, path) => {
-            let kind = authored(scope, path, 3, 6, places)?;
-            Ok(number_of(kind))
+        Find::Max(over, path) => {
+            let field = authored(scope, path, past(places, 3), past(places, 6))?;
+            Ok(FindTerm::Max(*over, field))
         }
         Find::At(link, path) => {
-            let kind = asked(scope, link, 4, 6, places)?;
-            let number = of_component(scope, path, 9, 11, places)?;
-            Ok(only_where(is_ref(kind), number_of(number)))
+            let link = asked(scope, link, past(places, 4), past(places, 6))?;
+            let field = of_component(scope, path, past(places, 9), past(places, 11))?;
+            Ok(FindTerm::At(link, field))
         }
         Find::MaxAll(path) => {
-            let kind = of_component(scope, path, 3, 5, places)?;
-            Ok(number_of(kind))
+            let field = of_component(scope, path, past(places, 3), past(places, 5))?;
+            Ok(FindTerm::MaxAll(field))
         }
     }
 }
 
 // How many tokens it has, `or` included.
 fn find_tokens(find: &Find) -> usize
-    ensures { result ≡ spec.find_tokens find.now }
+    ensures { result ≡ counts.find_tokens find.now }
 {
     match find {
         Find::Own(_) => 7,
@@ -92,47 +79,59 @@ fn find_tokens(find: &Find) -> usize
 }
 
 /// The names of all reads, in the order of the text, and the places behind them.
-pub fn find_names<'p>(
+pub fn finds_named<'p>(
     scope: &Scope<'_, '_>,
     finds: &[Find],
+    done: &mut Items<Named>,
     places: &'p [usize],
-) -> Result<&'p [usize], Refusal>
-    ensures { MatchResult result (λ q. spec.find_names scope.now finds.now places.now ≡ Ok q.now) (λ x. spec.find_names scope.now finds.now places.now ≡ Err x) }
+) -> Result<&'p [usize], WalkError>
+    ensures { Walks (spec.finds_named scope.now finds.now done.old places.now) (λ q. (done.new, q.now)) result }
 {
     let mut rest = places;
     for find in finds {
-        find_shape(scope, find, rest)?;
+        let term = find_walk(scope, find, rest)?;
+        done.push(Named {
+            term,
+            at: here(rest),
+        })?;
         rest = past(rest, find_tokens(find));
     }
     Ok(rest)
 }
 
-fn agrees(found: Result<Option<Shape>, Refusal>, shape: Shape) -> bool
-    ensures { result ≡ spec.agrees found shape }
+// The place of the innermost read that doesn't find what stands behind the last `or`.
+fn innermost(shape: Shape, finds: &[Named]) -> Option<usize>
+    ensures { result ≡ spec.innermost shape finds.now None }
 {
-    match found {
-        Ok(Some(other)) => same_shape(other, shape),
-        Ok(None) => false,
-        Err(_) => false,
+    let mut found = None;
+    for find in finds {
+        if !fits(found_shape(&find.term), shape) {
+            found = Some(find.at);
+        }
+    }
+    found
+}
+
+/// That all reads find what stands behind the last `or`, or where the innermost begins that doesn't.
+pub fn agreed(shape: Shape, finds: &[Named]) -> Result<(), Refusal>
+    ensures { result ≡ spec.agreed (spec.innermost shape finds.now None) }
+{
+    match innermost(shape, finds) {
+        None => Ok(()),
+        Some(at) => Err(Refusal {
+            kind: RuleKind::TypeFault,
+            at,
+        }),
     }
 }
 
-/// The place of the innermost read that doesn't find what stands behind the last `or`.
-pub fn innermost(
-    scope: &Scope<'_, '_>,
-    shape: Shape,
-    finds: &[Find],
-    places: &[usize],
-) -> Option<usize>
-    ensures { result ≡ spec.innermost scope.now shape finds.now places.now None }
+/// The reads without their places.
+pub fn terms(alloc: Global, finds: &[Named]) -> Result<Items<FindTerm>, Memory>
+    ensures { IfOk result (λ t. t ≡ spec.terms finds.now) }
 {
-    let mut rest = places;
-    let mut found = None;
+    let mut done = Items::new(alloc);
     for find in finds {
-        if !agrees(find_shape(scope, find, rest), shape) {
-            found = Some(here(rest));
-        }
-        rest = past(rest, find_tokens(find));
+        done.push(find.term)?;
     }
-    found
+    Ok(done)
 }

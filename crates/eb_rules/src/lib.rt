@@ -2,38 +2,35 @@
 #![tactic(auto)]
 
 mod adds;
+pub mod bakers;
 mod commands;
 pub mod faults;
 mod fields;
-mod finds;
+pub mod finds;
 mod inits;
 pub mod jobs;
-pub mod plan_laws;
+pub mod plans;
 pub mod queries;
 mod reads;
-pub mod rules;
+mod rules;
 pub mod scopes;
 mod shapes;
 pub mod statements;
-pub mod token_laws;
+pub mod texts;
 pub mod typing;
+pub mod walk_laws;
 pub mod walking;
 
 pub use faults::{Refusal, RuleFault, RuleKind};
 pub use jobs::Job;
+pub use plans::{
+    Addition, Aim, AuthoredField, BakerPlan, ComponentField, FieldPlace, Filling, FindTerm,
+    JobPlan, Order, ReadTerm, RulesPlan, Step, SystemPlan, Term,
+};
 pub use queries::Query3;
-pub use rules::{Rules, rules_text};
 pub use scopes::{Bound, Scope, Visible};
 pub use shapes::Shape;
 pub use statements::{inside, walk};
-pub use typing::typed;
+pub use texts::{Rules, rules_text};
+pub use typing::{Resolved, typed};
 pub use walking::{Ground, State, WalkError};
-
-#[cfg(test)]
-mod grammar_tests;
-#[cfg(test)]
-mod plan_tests;
-#[cfg(test)]
-mod plan_texts;
-#[cfg(test)]
-mod tests;

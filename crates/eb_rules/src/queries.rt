@@ -1,10 +1,10 @@
 // Names of queries.
 ghost use Rattle.std.specs.Prelude.{◌≡◌, ◌+◌, ◌<◌, ◌≤◌, [], length, MatchResult, Ok, Err, OnOk};
 ghost use Rattle.eb_rules.specs.Queries as spec;
-ghost use Rattle.eb_rules.specs.Statements.{Stops};
+ghost use Rattle.eb_rules.specs.Typing.{Walks};
 
 use crate::faults::{Refusal, RuleKind};
-use crate::fields::{is_in_all, past, refused};
+use crate::fields::{is_in_all, known, past, tested};
 use crate::walking::WalkError;
 use eb_base::{Items, Text, TypeNo};
 use eb_rule_text::Query;
@@ -35,16 +35,9 @@ fn name_typed(
     ensures value { result ≡ spec.name_typed schema.now before name.now places.now }
     ensures room { OnOk result (before < 32) }
 {
-    match schema.component_named(name.bytes()) {
-        None => Err(refused(RuleKind::UnknownName, places)),
-        Some(kind) => {
-            if before >= MOST_NAMES {
-                Err(refused(RuleKind::TooMany, places))
-            } else {
-                Ok(kind)
-            }
-        }
-    }
+    let kind = known(schema.component_named(name.bytes()), places)?;
+    tested(RuleKind::TooMany, before < MOST_NAMES, places)?;
+    Ok(kind)
 }
 
 // All names of a list, behind its word. The types are put into `done`, which is empty.
@@ -56,7 +49,7 @@ fn names_typed<'p>(
     places: &'p [usize],
 ) -> Result<&'p [usize], WalkError>
     requires { before + length done.old ≤ 32 }
-    ensures value { MatchResult result (λ q. spec.names_from schema.now before names.now done.old places.now ≡ Ok (done.new, q.now)) (λ e. Stops (spec.names_from schema.now before names.now done.old places.now) e) }
+    ensures value { Walks (spec.names_from schema.now before names.now done.old places.now) (λ q. (done.new, q.now)) result }
     ensures few { OnOk result (before + length done.new ≤ 32) }
 {
     let mut rest = places;
@@ -78,7 +71,7 @@ fn list_typed<'p>(
 ) -> Result<&'p [usize], WalkError>
     requires few { before ≤ 32 }
     requires none { done.old ≡ [] }
-    ensures value { MatchResult result (λ q. spec.list_typed schema.now before names.now places.now ≡ Ok (done.new, q.now)) (λ e. Stops (spec.list_typed schema.now before names.now places.now) e) }
+    ensures value { Walks (spec.list_typed schema.now before names.now places.now) (λ q. (done.new, q.now)) result }
     ensures few { OnOk result (before + length done.new ≤ 32) }
 {
     match names {
@@ -109,7 +102,7 @@ pub fn query_typed<'p>(
     query: &Query,
     places: &'p [usize],
 ) -> Result<(Query3, &'p [usize]), WalkError>
-    ensures { MatchResult result (λ q. spec.query_typed schema.now query.now places.now ≡ Ok (q.0, q.1.now)) (λ e. Stops (spec.query_typed schema.now query.now places.now) e) }
+    ensures { Walks (spec.query_typed schema.now query.now places.now) (λ q. (q.0, q.1.now)) result }
 {
     let mut all = Items::new(alloc);
     let rest = list_typed(schema, 0, query.all.as_slice(), &mut all, places)?;
@@ -118,8 +111,7 @@ pub fn query_typed<'p>(
     let mut none = Items::new(alloc);
     let before = all.len() + any.len();
     let rest = list_typed(schema, before, query.none.as_slice(), &mut none, rest)?;
-    if clashes(all.items(), any.items(), none.items()) {
-        return Err(WalkError::Refused(refused(RuleKind::TooMany, places)));
-    }
+    let clashing = clashes(all.items(), any.items(), none.items());
+    tested(RuleKind::TooMany, !clashing, places)?;
     Ok((Query3 { all, any, none }, rest))
 }

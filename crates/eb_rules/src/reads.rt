@@ -1,95 +1,107 @@
-// Names and types of reads that always have a value.
-ghost use Rattle.std.specs.Prelude.{◌≡◌, drop};
+// Names and types of reads that always have a value, and of visible names.
+ghost use Rattle.std.specs.Prelude.{◌≡◌};
+ghost use Rattle.eb_rules.specs.Scopes.{as_entity, as_value, place_of};
 ghost use Rattle.eb_rules.specs.Typing as spec;
+ghost use Rattle.eb_rule_text.specs.Counts as counts;
 
 use crate::faults::{Refusal, RuleKind};
-use crate::fields::{
-    asked, authored, authoring_fields, find_bound, known_kind, of_component, past, refused,
-};
-use crate::finds::is_ref;
-use crate::scopes::{Bound, Scope};
-use crate::shapes::{Shape, number_of, shape_of};
+use crate::fields::{asked, authored, field_in, find_bound, known, of_component, past, required};
+use crate::plans::{ReadTerm, Term};
+use crate::scopes::{Scope, as_entity, as_value};
+use crate::shapes::{Shape, read_shape};
+use crate::typing::{Resolved, typed_as};
+use eb_base::Text;
 use eb_rule_text::Read;
 
-// A shape that the read may have, or the fault of the whole read.
-fn whole_read(shape: Option<Shape>, places: &[usize]) -> Result<Shape, Refusal>
-    ensures { result ≡ spec.whole_read shape places.now }
+// A read whose names are known, or the fault of the whole read.
+fn whole_read(read: ReadTerm, places: &[usize]) -> Result<Resolved, Refusal>
+    ensures { result ≡ spec.whole_read read places.now }
 {
-    match shape {
-        Some(shape) => Ok(shape),
-        None => Err(refused(RuleKind::TypeFault, places)),
-    }
+    let shape = required(RuleKind::TypeFault, read_shape(&read), places)?;
+    Ok(typed_as(Term::Read(read), shape))
 }
 
-// A count of what has a type.
-fn type_at(known: bool, at: usize, places: &[usize]) -> Result<Shape, Refusal>
-    ensures { result ≡ spec.type_at known at places.now }
+// That a name is that of a `let`.
+fn is_value(scope: &Scope<'_, '_>, name: &Text, places: &[usize]) -> Result<Shape, Refusal>
+    ensures { result ≡ spec.visible as_value scope.now name.now places.now }
 {
-    if known {
-        Ok(Shape::Int)
-    } else {
-        Err(refused(RuleKind::UnknownName, past(places, at)))
-    }
+    let bound = known(find_bound(name.bytes(), scope.known), places)?;
+    let shape = required(RuleKind::TypeFault, as_value(bound), places)?;
+    Ok(shape)
 }
 
-fn ref_where(holds: bool) -> Option<Shape>
-    ensures { result ≡ spec.ref_where holds }
+/// That a name is that of an extra or of a created entity.
+pub fn is_entity(scope: &Scope<'_, '_>, name: &Text, places: &[usize]) -> Result<Shape, Refusal>
+    ensures { result ≡ spec.visible as_entity scope.now name.now places.now }
 {
-    if holds { Some(Shape::Ref) } else { None }
+    let bound = known(find_bound(name.bytes(), scope.known), places)?;
+    let shape = required(RuleKind::TypeFault, as_entity(bound), places)?;
+    Ok(shape)
 }
 
-// The entity of an extra or of a created name.
-fn entity_of(bound: Option<Bound>, places: &[usize]) -> Result<Shape, Refusal>
-    ensures { result ≡ spec.entity_of bound places.now }
+fn named(scope: &Scope<'_, '_>, name: &Text, shape: Shape) -> Resolved
+    ensures { result ≡ spec.typed_as (Term.Name (place_of name.now scope.now.known)) shape }
 {
-    match bound {
-        None => Err(refused(RuleKind::UnknownName, past(places, 2))),
-        Some(Bound::Value(_)) => Err(refused(RuleKind::TypeFault, past(places, 2))),
-        Some(Bound::Entity) => Ok(Shape::Ref),
-    }
+    typed_as(Term::Name(scope.known.place(name.bytes())), shape)
 }
 
-/// The shape of a read that always has a value.
-pub fn read_shape(scope: &Scope<'_, '_>, read: &Read, places: &[usize]) -> Result<Shape, Refusal>
-    ensures { result ≡ spec.read_shape scope.now read.now places.now }
+/// A name as a value.
+pub fn name_typed(scope: &Scope<'_, '_>, name: &Text, places: &[usize]) -> Result<Resolved, Refusal>
+    ensures { result ≡ spec.name_typed as_value scope.now name.now places.now }
+{
+    let shape = is_value(scope, name, places)?;
+    Ok(named(scope, name, shape))
+}
+
+// A name in the place of an entity.
+fn entity_typed(scope: &Scope<'_, '_>, name: &Text, places: &[usize]) -> Result<Resolved, Refusal>
+    ensures { result ≡ spec.name_typed as_entity scope.now name.now places.now }
+{
+    let shape = is_entity(scope, name, places)?;
+    Ok(named(scope, name, shape))
+}
+
+/// A read that always has a value: its names in the order of the text, and then the whole.
+pub fn read_walk(scope: &Scope<'_, '_>, read: &Read, places: &[usize]) -> Result<Resolved, Refusal>
+    ensures { result ≡ spec.read_walk scope.now read.now places.now }
 {
     match read {
         Read::This(field) => {
-            let kind = known_kind(field, scope.own, past(places, 2))?;
-            whole_read(number_of(kind), places)
+            let field = known(field_in(field, scope.own), past(places, 2))?;
+            whole_read(ReadTerm::This(field), places)
         }
         Read::Field(path) => {
-            let kind = asked(scope, path, 2, 4, places)?;
-            whole_read(shape_of(kind), places)
+            let field = asked(scope, path, past(places, 2), past(places, 4))?;
+            whole_read(ReadTerm::Field(field), places)
         }
-        Read::Sum(_, path) => {
-            let kind = authored(scope, path, 3, 6, places)?;
-            whole_read(number_of(kind), places)
+        Read::Sum(over, path) => {
+            let field = authored(scope, path, past(places, 3), past(places, 6))?;
+            whole_read(ReadTerm::Sum(*over, field), places)
         }
-        Read::Count(_, kind) => {
-            let known = authoring_fields(scope.schema, kind.bytes()).is_some();
-            type_at(known, 3, places)
+        Read::Count(over, kind) => {
+            let number = known(scope.schema.authoring_named(kind.bytes()), past(places, 3))?;
+            whole_read(ReadTerm::Count(*over, number), places)
         }
         Read::SumAll(path) => {
-            let kind = of_component(scope, path, 3, 5, places)?;
-            whole_read(number_of(kind), places)
+            let field = of_component(scope, path, past(places, 3), past(places, 5))?;
+            whole_read(ReadTerm::SumAll(field), places)
         }
         Read::CountAll(kind) => {
-            let known = scope.schema.component_named(kind.bytes()).is_some();
-            type_at(known, 3, places)
+            let number = known(scope.schema.component_named(kind.bytes()), past(places, 3))?;
+            whole_read(ReadTerm::CountAll(number), places)
         }
-        Read::Entity => Ok(Shape::Ref),
+        Read::Entity => whole_read(ReadTerm::Entity, places),
         Read::EntityAt(field) => {
-            let kind = known_kind(field, scope.own, past(places, 4))?;
-            whole_read(ref_where(is_ref(kind)), places)
+            let field = known(field_in(field, scope.own), past(places, 4))?;
+            whole_read(ReadTerm::EntityAt(field), places)
         }
-        Read::EntityOf(name) => entity_of(find_bound(name.bytes(), scope.known), places),
+        Read::EntityOf(name) => entity_typed(scope, name, past(places, 2)),
     }
 }
 
 /// How many tokens it has.
 pub fn read_tokens(read: &Read) -> usize
-    ensures { result ≡ spec.read_tokens read.now }
+    ensures { result ≡ counts.read_tokens read.now }
 {
     match read {
         Read::This(_) => 3,

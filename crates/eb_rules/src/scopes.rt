@@ -1,7 +1,11 @@
 // What names mean where an expression stands.
+ghost use Rattle.std.specs.Prelude.{◌≡◌};
+ghost use Rattle.eb_rules.specs.Scopes as spec;
+
 use crate::shapes::Shape;
 use eb_base::{Text, TypeNo};
 use eb_rule_names::{Named, VisibleNames};
+use eb_rule_text::Context;
 use eb_schema::{Field, Schema};
 use std::marker::Model;
 
@@ -12,6 +16,26 @@ pub enum Bound {
     Value(Shape),
     /// An extra or a created entity.
     Entity,
+}
+
+/// What it is as a value.
+pub fn as_value(bound: Bound) -> Option<Shape>
+    ensures { result ≡ spec.as_value bound }
+{
+    match bound {
+        Bound::Value(shape) => Some(shape),
+        Bound::Entity => None,
+    }
+}
+
+/// What it is in the place of an entity.
+pub fn as_entity(bound: Bound) -> Option<Shape>
+    ensures { result ≡ spec.as_entity bound }
+{
+    match bound {
+        Bound::Value(_) => None,
+        Bound::Entity => Some(Shape::Ref),
+    }
 }
 
 /// A visible name.
@@ -33,6 +57,8 @@ impl Named for Visible {
 #[derive(Drop)]
 pub struct Scope<'g, 'k> {
     pub schema: &'g Schema,
+    /// In which of the three forms it stands.
+    pub context: Context,
     /// The fields of the baker's own authoring type; none in systems and jobs.
     pub own: &'g [Field],
     /// The types in the list `all` of the query; none in bakers.
@@ -46,5 +72,5 @@ impl<'g, 'k> Model for Scope<'g, 'k> {
 
     ghost Value = { Where };
 
-    ghost view = { λ s. record { types = s.schema.now; own = s.own.now; all = s.all.now; known = s.known.now } };
+    ghost view = { λ s. record { types = s.schema.now; context = s.context; own = s.own.now; all = s.all.now; known = s.known.now } };
 }

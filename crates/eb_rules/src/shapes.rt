@@ -2,6 +2,7 @@
 ghost use Rattle.std.specs.Prelude.{◌≡◌};
 ghost use Rattle.eb_rules.specs.Shapes as spec;
 
+use crate::plans::{FindTerm, ReadTerm};
 use eb_rule_text::Op;
 use eb_schema::Kind;
 
@@ -142,22 +143,14 @@ pub fn of_op(op: Op, a: Shape, b: Shape) -> Option<Shape>
 pub fn of_minus(a: Shape) -> Option<Shape>
     ensures { result ≡ spec.of_minus a }
 {
-    match a {
-        Shape::Int => Some(Shape::Int),
-        Shape::Fix => Some(Shape::Fix),
-        Shape::Bool => None,
-        Shape::Ref => None,
-    }
+    of_numbers(a, a)
 }
 
 /// What `!` makes of an operand.
 pub fn of_not(a: Shape) -> Option<Shape>
     ensures { result ≡ spec.of_not a }
 {
-    match a {
-        Shape::Bool => Some(Shape::Bool),
-        _ => None,
-    }
+    of_truths(a, a)
 }
 
 /// What `fix(..)` makes of an operand.
@@ -177,5 +170,70 @@ pub fn of_int(a: Shape) -> Option<Shape>
     match a {
         Shape::Fix => Some(Shape::Int),
         _ => None,
+    }
+}
+
+/// Whether this shape is wanted, where one is.
+pub fn fits(wanted: Option<Shape>, shape: Shape) -> bool
+    ensures { result ≡ spec.fits wanted shape }
+{
+    match wanted {
+        Some(wanted) => same_shape(wanted, shape),
+        None => false,
+    }
+}
+
+fn only_where(holds: bool, shape: Option<Shape>) -> Option<Shape>
+    ensures { result ≡ spec.only_where holds shape }
+{
+    if holds { shape } else { None }
+}
+
+pub fn is_ref(kind: Kind) -> bool
+    ensures { result ≡ spec.is_ref kind }
+{
+    match kind {
+        Kind::Ref => true,
+        _ => false,
+    }
+}
+
+fn is_asset(kind: Kind) -> bool
+    ensures { result ≡ spec.is_asset kind }
+{
+    match kind {
+        Kind::Asset => true,
+        _ => false,
+    }
+}
+
+/// The shape of the number that a read finds, where its fields may be read so.
+pub fn found_shape(find: &FindTerm) -> Option<Shape>
+    ensures { result ≡ spec.found_shape find.now }
+{
+    match find {
+        FindTerm::Own(at) => number_of(at.field.kind),
+        FindTerm::Parent(at) => number_of(at.field.kind),
+        FindTerm::Asset(link, at) => only_where(is_asset(link.kind), number_of(at.kind)),
+        FindTerm::Min(_, at) => number_of(at.field.kind),
+        FindTerm::Max(_, at) => number_of(at.field.kind),
+        FindTerm::At(link, at) => only_where(is_ref(link.field.kind), number_of(at.field.kind)),
+        FindTerm::MaxAll(at) => number_of(at.field.kind),
+    }
+}
+
+/// The shape of a read's value, where its field may be read so.
+pub fn read_shape(read: &ReadTerm) -> Option<Shape>
+    ensures { result ≡ spec.read_shape read.now }
+{
+    match read {
+        ReadTerm::This(at) => number_of(at.kind),
+        ReadTerm::Field(at) => shape_of(at.field.kind),
+        ReadTerm::Sum(_, at) => number_of(at.field.kind),
+        ReadTerm::Count(_, _) => Some(Shape::Int),
+        ReadTerm::SumAll(at) => number_of(at.field.kind),
+        ReadTerm::CountAll(_) => Some(Shape::Int),
+        ReadTerm::Entity => Some(Shape::Ref),
+        ReadTerm::EntityAt(at) => only_where(is_ref(at.kind), Some(Shape::Ref)),
     }
 }

@@ -1,136 +1,167 @@
-// Names and types of expressions.
-ghost use Rattle.std.specs.Prelude.{◌≡◌, map, MatchResult, Ok, Err};
-ghost use Rattle.eb_rules.specs.Scopes.{bound_of};
+// Names and types of expressions, and what they are resolved to.
+ghost use Rattle.std.specs.Prelude.{◌≡◌, [], map, MatchResult, Ok, Err};
 ghost use Rattle.eb_rules.specs.Typing as spec;
+ghost use Rattle.eb_rules.specs.Typing.{Walks};
 
-use crate::faults::{Refusal, RuleKind};
-use crate::fields::{find_bound, past, refused};
-use crate::finds::{find_names, innermost};
-use crate::reads::{read_shape, read_tokens};
-use crate::scopes::{Bound, Scope};
+use crate::faults::RuleKind;
+use crate::fields::{past, required};
+use crate::finds::{agreed, finds_named, terms};
+use crate::plans::Term;
+use crate::reads::{name_typed, read_tokens, read_walk};
+use crate::scopes::Scope;
 use crate::shapes::{Shape, of_fix, of_int, of_minus, of_not, of_op};
+use crate::walking::WalkError;
 use eb_rule_text::{Expr, Find, Link};
+use sqlite_items::{Boxed, Items};
+use std::alloc::Global;
 
-// A shape that the construct may have, or its fault.
-fn allowed<'p>(
-    shape: Option<Shape>,
-    places: &[usize],
-    rest: &'p [usize],
-) -> Result<(Shape, &'p [usize]), Refusal>
-    ensures { MatchResult result (λ q. spec.allowed shape places.now rest.now ≡ Ok (q.0, q.1.now)) (λ x. spec.allowed shape places.now rest.now ≡ Err x) }
-{
-    match shape {
-        Some(shape) => Ok((shape, rest)),
-        None => Err(refused(RuleKind::TypeFault, places)),
-    }
+/// A resolved expression and what it is.
+#[derive(Drop)]
+pub struct Resolved {
+    pub term: Term,
+    pub shape: Shape,
 }
 
-fn name_shape(bound: Option<Bound>, places: &[usize]) -> Result<(Shape, &[usize]), Refusal>
-    ensures { MatchResult result (λ q. spec.name_shape bound places.now ≡ Ok (q.0, q.1.now)) (λ x. spec.name_shape bound places.now ≡ Err x) }
+/// An expression of this shape.
+pub fn typed_as(term: Term, shape: Shape) -> Resolved
+    ensures { result ≡ spec.typed_as term shape }
 {
-    match bound {
-        None => Err(refused(RuleKind::UnknownName, places)),
-        Some(Bound::Value(shape)) => Ok((shape, past(places, 1))),
-        Some(Bound::Entity) => Err(refused(RuleKind::TypeFault, places)),
-    }
+    Resolved { term, shape }
 }
 
-fn agreed(fault: Option<usize>, shape: Shape, rest: &[usize]) -> Result<(Shape, &[usize]), Refusal>
-    ensures { MatchResult result (λ q. spec.agreed fault shape rest.now ≡ Ok (q.0, q.1.now)) (λ x. spec.agreed fault shape rest.now ≡ Err x) }
-{
-    match fault {
-        None => Ok((shape, rest)),
-        Some(at) => Err(Refusal {
-            kind: RuleKind::TypeFault,
-            at,
-        }),
-    }
-}
-
-/// The shape of an expression and the places behind it, or its first fault. The places are those of its tokens and of what
-/// follows. Takes no memory.
+/// An expression resolved and the places behind it, or its first fault. The places are those of its tokens and of what follows.
 #[cycle(typing)]
 #[tactic(auto, unfolding(crate::specs::Typing::typed))]
 pub fn typed<'p>(
+    alloc: Global,
     scope: &Scope<'_, '_>,
     expr: &Expr,
     places: &'p [usize],
-) -> Result<(Shape, &'p [usize]), Refusal>
-    ensures { MatchResult result (λ q. spec.typed scope.now expr.now places.now ≡ Ok (q.0, q.1.now)) (λ x. spec.typed scope.now expr.now places.now ≡ Err x) }
+) -> Result<(Resolved, &'p [usize]), WalkError>
+    ensures { Walks (spec.typed scope.now expr.now places.now) (λ q. (q.0, q.1.now)) result }
 {
     match expr {
-        Expr::Int(_) => Ok((Shape::Int, past(places, 1))),
-        Expr::Fix(_) => Ok((Shape::Fix, past(places, 1))),
-        Expr::True | Expr::False => Ok((Shape::Bool, past(places, 1))),
-        Expr::Null => Ok((Shape::Ref, past(places, 1))),
-        Expr::Name(name) => name_shape(find_bound(name.bytes(), scope.known), places),
+        Expr::Int(n) => Ok((typed_as(Term::Int(*n), Shape::Int), past(places, 1))),
+        Expr::Fix(n) => Ok((typed_as(Term::Fix(*n), Shape::Fix), past(places, 1))),
+        Expr::True => Ok((typed_as(Term::True, Shape::Bool), past(places, 1))),
+        Expr::False => Ok((typed_as(Term::False, Shape::Bool), past(places, 1))),
+        Expr::Null => Ok((typed_as(Term::Null, Shape::Ref), past(places, 1))),
+        Expr::Name(name) => {
+            let name = name_typed(scope, name, places)?;
+            Ok((name, past(places, 1)))
+        }
         Expr::Paren(inner) => {
-            let (shape, rest) = typed(scope, inner.get(), past(places, 1))?;
-            Ok((shape, past(rest, 1)))
+            let (inner, rest) = typed(alloc, scope, inner.get(), past(places, 1))?;
+            Ok((inner, past(rest, 1)))
         }
         Expr::ToFix(inner) => {
-            let (shape, rest) = typed(scope, inner.get(), past(places, 2))?;
-            allowed(of_fix(shape), places, past(rest, 1))
+            let (inner, rest) = typed(alloc, scope, inner.get(), past(places, 2))?;
+            let shape = required(RuleKind::TypeFault, of_fix(inner.shape), places)?;
+            let inner = Boxed::new(alloc, inner.term)?;
+            Ok((typed_as(Term::ToFix(inner), shape), past(rest, 1)))
         }
         Expr::ToInt(inner) => {
-            let (shape, rest) = typed(scope, inner.get(), past(places, 2))?;
-            allowed(of_int(shape), places, past(rest, 1))
+            let (inner, rest) = typed(alloc, scope, inner.get(), past(places, 2))?;
+            let shape = required(RuleKind::TypeFault, of_int(inner.shape), places)?;
+            let inner = Boxed::new(alloc, inner.term)?;
+            Ok((typed_as(Term::ToInt(inner), shape), past(rest, 1)))
         }
         Expr::Read(read) => {
-            let shape = read_shape(scope, read, places)?;
-            Ok((shape, past(places, read_tokens(read))))
+            let value = read_walk(scope, read, places)?;
+            Ok((value, past(places, read_tokens(read))))
         }
-        Expr::Find(finds, last) => typed_finds(scope, finds.as_slice(), last.get(), places),
+        Expr::Find(finds, last) => {
+            let (made, rest) = typed_finds(alloc, scope, finds.as_slice(), last.get(), places)?;
+            Ok((made, rest))
+        }
         Expr::Negate(operand) => {
-            let (shape, rest) = typed(scope, operand.get(), past(places, 1))?;
-            allowed(of_minus(shape), places, rest)
+            let (operand, rest) = typed(alloc, scope, operand.get(), past(places, 1))?;
+            let shape = required(RuleKind::TypeFault, of_minus(operand.shape), places)?;
+            let operand = Boxed::new(alloc, operand.term)?;
+            Ok((typed_as(Term::Negate(operand), shape), rest))
         }
         Expr::Not(operand) => {
-            let (shape, rest) = typed(scope, operand.get(), past(places, 1))?;
-            allowed(of_not(shape), places, rest)
+            let (operand, rest) = typed(alloc, scope, operand.get(), past(places, 1))?;
+            let shape = required(RuleKind::TypeFault, of_not(operand.shape), places)?;
+            let operand = Boxed::new(alloc, operand.term)?;
+            Ok((typed_as(Term::Not(operand), shape), rest))
         }
         Expr::Chain(first, more) => {
-            let (shape, rest) = typed(scope, first.get(), places)?;
-            let (shape, rest) = typed_links(scope, more.as_slice(), shape, places, rest)?;
-            Ok((shape, rest))
+            let (first, rest) = typed(alloc, scope, first.get(), places)?;
+            let (made, rest) = chained(alloc, scope, first, more.as_slice(), places, rest)?;
+            Ok((made, rest))
         }
     }
+}
+
+// The links behind a first operand.
+#[cycle(typing)]
+#[tactic(auto, unfolding(crate::specs::Typing::typed))]
+fn chained<'p>(
+    alloc: Global,
+    scope: &Scope<'_, '_>,
+    first: Resolved,
+    more: &[Link<Expr>],
+    places: &[usize],
+    behind: &'p [usize],
+) -> Result<(Resolved, &'p [usize]), WalkError>
+    ensures { Walks (spec.chained first (map (spec.typed_link scope.now) more.now) places.now behind.now) (λ q. (q.0, q.1.now)) result }
+{
+    let mut links = Items::new(alloc);
+    let (shape, rest) = typed_links(alloc, scope, more, first.shape, &mut links, places, behind)?;
+    let first = Boxed::new(alloc, first.term)?;
+    Ok((typed_as(Term::Chain(first, links), shape), rest))
 }
 
 // Reads, each with its `or`, and what stands behind the last one.
 #[cycle(typing)]
 #[tactic(auto, unfolding(crate::specs::Typing::typed))]
 fn typed_finds<'p>(
+    alloc: Global,
     scope: &Scope<'_, '_>,
     finds: &[Find],
     last: &Expr,
     places: &'p [usize],
-) -> Result<(Shape, &'p [usize]), Refusal>
-    ensures { MatchResult result (λ q. spec.finds_typed scope.now finds.now (spec.typed scope.now last.now) places.now ≡ Ok (q.0, q.1.now)) (λ x. spec.finds_typed scope.now finds.now (spec.typed scope.now last.now) places.now ≡ Err x) }
+) -> Result<(Resolved, &'p [usize]), WalkError>
+    ensures { Walks (spec.finds_typed scope.now finds.now (spec.typed scope.now last.now) places.now) (λ q. (q.0, q.1.now)) result }
 {
-    let behind = find_names(scope, finds, places)?;
-    let (shape, rest) = typed(scope, last, behind)?;
-    agreed(innermost(scope, shape, finds, places), shape, rest)
+    let mut named = Items::new(alloc);
+    let behind = finds_named(scope, finds, &mut named, places)?;
+    let (last, rest) = typed(alloc, scope, last, behind)?;
+    agreed(last.shape, named.as_slice())?;
+    let finds = terms(alloc, named.as_slice())?;
+    let shape = last.shape;
+    let last = Boxed::new(alloc, last.term)?;
+    Ok((typed_as(Term::Find(finds, last), shape), rest))
 }
 
-// The links of a chain that begins at `places` and has this shape so far.
+// The links of a chain that begins at `places` and has this shape so far, behind those that are done.
 #[cycle(typing)]
 #[tactic(auto, unfolding(crate::specs::Typing::typed))]
 fn typed_links<'p>(
+    alloc: Global,
     scope: &Scope<'_, '_>,
     links: &[Link<Expr>],
     first: Shape,
+    done: &mut Items<Link<Term>>,
     places: &[usize],
     behind: &'p [usize],
-) -> Result<(Shape, &'p [usize]), Refusal>
-    ensures { MatchResult result (λ q. spec.links_typed (map (spec.typed_link scope.now) links.now) first places.now behind.now ≡ Ok (q.0, q.1.now)) (λ x. spec.links_typed (map (spec.typed_link scope.now) links.now) first places.now behind.now ≡ Err x) }
+) -> Result<(Shape, &'p [usize]), WalkError>
+    ensures { Walks (spec.links_typed (map (spec.typed_link scope.now) links.now) first done.old places.now behind.now) (λ q. ((done.new, q.0), q.1.now)) result }
 {
     let mut shape = first;
     let mut rest = behind;
     for link in links {
-        let (right, after) = typed(scope, &link.right, past(rest, 1))?;
-        let (made, after) = allowed(of_op(link.op, shape, right), places, after)?;
-        shape = made;
+        let (right, after) = typed(alloc, scope, &link.right, past(rest, 1))?;
+        shape = required(
+            RuleKind::TypeFault,
+            of_op(link.op, shape, right.shape),
+            places,
+        )?;
+        done.push(Link {
+            op: link.op,
+            right: right.term,
+        })?;
         rest = after;
     }
     Ok((shape, rest))

@@ -3,7 +3,9 @@ use crate::faults::Refusal;
 use crate::scopes::Visible;
 use eb_base::{Items, Memory, TypeNo};
 use eb_rule_names::VisibleNames;
+use eb_rule_text::Context;
 use eb_schema::{Field, Schema};
+use std::alloc::AllocError;
 use std::marker::Model;
 
 /// Why a walk over statements stops.
@@ -21,6 +23,17 @@ impl From<Memory> for WalkError {
     ghost from_gives = { λ _ e. e ≡ Memory };
 
     fn from(_: Memory) -> WalkError {
+        WalkError::Memory
+    }
+}
+
+impl From<AllocError> for WalkError {
+    ghost use Rattle.std.specs.Prelude.{◌≡◌};
+    ghost use Rattle.eb_rules.specs.declared.walking.WalkError.TheVariants.{Memory};
+
+    ghost from_gives = { λ _ e. e ≡ Memory };
+
+    fn from(_: AllocError) -> WalkError {
         WalkError::Memory
     }
 }
@@ -51,12 +64,12 @@ pub struct State {
 #[derive(Drop)]
 pub struct Ground<'a> {
     pub schema: &'a Schema,
+    /// A baker, whose entities have at most 32 types, or a system.
+    pub context: Context,
     /// The fields of the baker's own authoring type; none in systems.
     pub own: &'a [Field],
     /// The types in the list `all` of a system's query; none in bakers.
     pub all: &'a [TypeNo],
-    /// Whether this is a baker, whose entities have at most 32 types.
-    pub is_baker: bool,
 }
 
 impl<'a> Model for Ground<'a> {
@@ -64,5 +77,5 @@ impl<'a> Model for Ground<'a> {
 
     ghost Value = { Fixed };
 
-    ghost view = { λ g. record { types = g.schema.now; own = g.own.now; all = g.all.now; baker = g.is_baker } };
+    ghost view = { λ g. record { types = g.schema.now; context = g.context; own = g.own.now; all = g.all.now } };
 }

@@ -1,25 +1,25 @@
-use Rattle.std.proofs.Common.{rules, arith}
+use Rattle.std.proofs.Common.{rules, arith, ap, ◌∙◌}
 use Rattle.std.proofs.lemmas.Grind.{common_steps}
 use Rattle.eb_rule_text.specs.Input.{until_brace}
 use Rattle.eb_rule_text.specs.Blocks.{inner_add}
 use Rattle.eb_rule_text.proofs.Levels.{inner_add_is}
-use Rattle.eb_rule_text.proofs.Turns.{one_more}
+use Rattle.eb_rule_text.proofs.Turns.{one_left}
 use Rattle.eb_rule_text.proofs.blocks.adds.Goals as goal
 
 pub returns-then-eat : goal.returns-then-eat
 returns-then-eat c =
-    let e = one_more (λ n. until_brace (inner_add c.args.context c.args.depth) n c.loop-turn.done c.loop-turn.tokens) _ c.loop-turn._turn c.loop-turn-test.true c.loop-turn.invariant in
+    let turns = c.loop-turn.invariant ∙ ap (λ n. until_brace (inner_add c.args.context c.args.depth) n c.loop-turn.done c.loop-turn.tokens) (one_left _ c.loop-turn._turn c.loop-turn-test.true) in
     let deeper = inner_add_is c.args.context c.args.depth (search rules) in
     first_of (search rules, grind (arith, common_steps))
 
 pub returns-in_err-one : goal.returns-in_err-one
 returns-in_err-one c =
-    let e = one_more (λ n. until_brace (inner_add c.args.context c.args.depth) n c.loop-turn.done c.loop-turn.tokens) _ c.loop-turn._turn c.loop-turn-test.true c.loop-turn.invariant in
+    let turns = c.loop-turn.invariant ∙ ap (λ n. until_brace (inner_add c.args.context c.args.depth) n c.loop-turn.done c.loop-turn.tokens) (one_left _ c.loop-turn._turn c.loop-turn-test.true) in
     let deeper = inner_add_is c.args.context c.args.depth (search rules) in
     first_of (search rules, grind (arith, common_steps))
 
 pub loop-turn-preserved : goal.loop-turn-preserved
 loop-turn-preserved c =
-    let e = one_more (λ n. until_brace (inner_add c.args.context c.args.depth) n c.loop-turn.done c.loop-turn.tokens) _ c.loop-turn._turn c.loop-turn-test.true c.loop-turn.invariant in
+    let turns = c.loop-turn.invariant ∙ ap (λ n. until_brace (inner_add c.args.context c.args.depth) n c.loop-turn.done c.loop-turn.tokens) (one_left _ c.loop-turn._turn c.loop-turn-test.true) in
     let deeper = inner_add_is c.args.context c.args.depth (search rules) in
     first_of (search rules, grind (arith, common_steps))

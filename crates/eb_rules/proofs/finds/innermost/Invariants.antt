@@ -1,6 +1,6 @@
-use Rattle.std.proofs.Common.{◌≡◌, None, drop}
+use Rattle.std.proofs.Common.{◌≡◌, drop, None}
 use Rattle.eb_rules.specs.Typing.{innermost}
 use Rattle.eb_rules.proofs.finds.innermost.Given as goal
 
 abbrev pub invariant-loop-find : goal.invariant-loop-find
-invariant-loop-find l = innermost l.scope l.shape (drop l.find-index l.finds) l.rest l.found ≡ innermost l.scope l.shape l.finds l.fn.places None
+invariant-loop-find l = innermost l.shape (drop l.find-index l.finds) l.found ≡ innermost l.shape l.finds None
