@@ -1,0 +1,9 @@
+use Rattle.std.proofs.Common.{◌≡◌}
+use Rattle.std.specs.List.{fold}
+use Rattle.std.specs.FinMap.{entries}
+use Rattle.eb_bake.specs.Changed.{with_gone}
+use Rattle.eb_bake.proofs.changed.note_gone.Given as goal
+
+-- the entities that are left do the rest
+abbrev pub invariant-loop-name : goal.invariant-loop-name
+invariant-loop-name l = fold (with_gone l.new) l.out l.name-iterator ≡ fold (with_gone l.fn.new) l.fn.out (entries l.fn.old)

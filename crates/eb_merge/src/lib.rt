@@ -1,0 +1,13 @@
+//! What the runs of a project give, brought together: the entities of each object, and what was left out.
+#![tactic(auto)]
+
+pub mod laws;
+pub mod merging;
+mod objects;
+pub mod own_cells;
+pub mod runs;
+
+pub use laws::the_lowest_stands;
+pub use merging::Merged;
+pub use own_cells::{OwnCells, Standing};
+pub use runs::BakerRun;
