@@ -1,6 +1,6 @@
--- What an edit leaves: the schema, and a world that fits it.
-use Rattle.std.proofs.Common.{◌≡◌, ℕ, Bool, true, false, cond, not, List, [], length, refl, sym, ap, subst, ◌∙◌}
-use Rattle.std.specs.Prelude.{◌&&◌, nat_le, Option, Some, None, is_some, Result, Ok, Err, OnErr, slice_set, ⊤}
+-- What an edit leaves: the schema, and where it is refused the project.
+use Rattle.std.proofs.Common.{◌≡◌, ℕ, Bool, true, false, cond, not, List, [], length, refl, subst}
+use Rattle.std.specs.Prelude.{◌&&◌, nat_le, Option, Some, None, is_some, Result, Ok, Err, slice_set, ⊤}
 use Rattle.eb_schema.specs.Schemas.{Types}
 use Rattle.eb_scene.specs.declared.objects.Given.{Given}
 use Rattle.eb_scene.specs.declared.edits.Edit.{Edit}
@@ -11,8 +11,8 @@ use Rattle.eb_scene.specs.Fits.{fitted, field_fitted}
 use Rattle.eb_scene.specs.Projects.{Content, Objects, numbered}
 use Rattle.eb_scene.specs.Tables.{with_numbered, without_numbered, changed}
 use Rattle.eb_scene.specs.Edits.{edited, and_so, on_scene, on_scene_at, put_scene, most_assets}
-use Rattle.eb_copy.specs.Rerun.{Rebakes}
-use Rattle.eb_copy.specs.declared.bakers.Rebaked.{Rebaked}
+use Rattle.eb_bake.specs.Baking.{Bakery, Rebakes}
+use Rattle.eb_bake.specs.declared.bakers.BakerFault.TheVariants as baker
 
 -- a project of this schema, or a refusal
 abbrev Keeps : Types → Result Content EditFault → Type 0
@@ -56,26 +56,21 @@ edited-keeps g (edit.SetAssetField n field value) = Keeps-so g.schema (field_fit
 pub edited-schema : (g h : Content) (e : Edit) → edited g e ≡ Ok h → h.schema ≡ g.schema
 edited-schema g h e is = subst (Keeps g.schema) is (edited-keeps g e)
 
--- a refusal of another cause than memory, and nothing changed
-pub rebakes-refused : (refusal : EditFault) (g h : Content) (e : Edit) → Rebakes (Err refusal) g h e → ¬ (refusal ≡ fault.Memory) → (h ≡ g) × (edited g e ≡ Err refusal)
-rebakes-refused fault.Memory g h e told no_memory = absurd (no_memory refl)
-rebakes-refused fault.NoScene g h e told no_memory = told
-rebakes-refused fault.SceneTaken g h e told no_memory = told
-rebakes-refused fault.NoObject g h e told no_memory = told
-rebakes-refused fault.ObjectTaken g h e told no_memory = told
-rebakes-refused fault.NoParent g h e told no_memory = told
-rebakes-refused fault.Cycle g h e told no_memory = told
-rebakes-refused fault.NoType g h e told no_memory = told
-rebakes-refused fault.NoComponent g h e told no_memory = told
-rebakes-refused fault.NoField g h e told no_memory = told
-rebakes-refused (fault.BadValue index) g h e told no_memory = told
-rebakes-refused fault.NoAsset g h e told no_memory = told
-rebakes-refused fault.AssetLimit g h e told no_memory = told
-rebakes-refused fault.ObjectLimit g h e told no_memory = told
-rebakes-refused fault.DepthLimit g h e told no_memory = told
-rebakes-refused fault.SectionRange g h e told no_memory = told
-
--- the schema stays, whatever comes of an edit
-pub rebakes-schema : (result : Result Rebaked EditFault) (g h : Content) (e : Edit) → Rebakes result g h e → OnErr result (h ≡ g) → h.schema ≡ g.schema
-rebakes-schema (Ok done) g h e told kept = edited-schema g h e told.state
-rebakes-schema (Err refusal) g h e told kept = ap (λ (c : Content). c.schema) kept
+-- a refusal of the baker is that of the edit, and nothing changed
+pub refused-as : (refusal : EditFault) (g h : Bakery) (e : Edit) → Rebakes (Err (baker.Edit refusal)) g h e → (h ≡ g) × (edited g.project e ≡ Err refusal)
+refused-as fault.Memory g h e told = absurd told
+refused-as fault.NoScene g h e told = told
+refused-as fault.SceneTaken g h e told = told
+refused-as fault.NoObject g h e told = told
+refused-as fault.ObjectTaken g h e told = told
+refused-as fault.NoParent g h e told = told
+refused-as fault.Cycle g h e told = told
+refused-as fault.NoType g h e told = told
+refused-as fault.NoComponent g h e told = told
+refused-as fault.NoField g h e told = told
+refused-as (fault.BadValue index) g h e told = told
+refused-as fault.NoAsset g h e told = told
+refused-as fault.AssetLimit g h e told = told
+refused-as fault.ObjectLimit g h e told = told
+refused-as fault.DepthLimit g h e told = told
+refused-as fault.SectionRange g h e told = told

@@ -14,7 +14,8 @@ use Rattle.eb_outside.specs.Shelves.{Files}
 use Rattle.eb_session.specs.declared.sections.Published.{Published}
 use Rattle.eb_session.specs.Images.{the_place}
 use Rattle.eb_scene.specs.Projects.{Content}
-use Rattle.eb_session.specs.Machine.{State, Step, IsSection, IsKept, refreshed_live, with_project}
+use Rattle.eb_rules.specs.Kept.{Kept}
+use Rattle.eb_session.specs.Machine.{State, Step, IsSection, IsKept, refreshed_live}
 
 nothing_found : (live : Live) (name : Name) (l : Living) → live ≡ empty → get live name ≡ Some l → ⊥
 nothing_found live name l none has = cc (has, ap (λ m. get m name) none, get-empty {X = Living} name_cmp name)
@@ -65,5 +66,5 @@ same_for_all f g None same = refl
 same_for_all f g (Some files) same = ap Some (same files)
 
 -- an edit changes the project, and neither its schema nor the world
-pub IsKept-edited : (state : State) (project : Content) → project.schema ≡ state.project.schema → IsKept state → IsKept (with_project state project)
-IsKept-edited state project same kept = record { published = rw same kept.published; rows = kept.rows; tags = kept.tags; loaded = kept.loaded }
+pub IsKept-edited : (state : State) (rules : Kept) (project : Content) → project.schema ≡ state.project.schema → IsKept state → IsKept (record state { rules = rules; project = project })
+IsKept-edited state rules project same kept = record { published = rw same kept.published; rows = kept.rows; tags = kept.tags; loaded = kept.loaded }

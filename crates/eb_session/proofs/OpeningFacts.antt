@@ -1,5 +1,5 @@
--- What a folder opens as, by what its two files hold.
-use Rattle.std.proofs.Common.{◌≡◌, ℕ, ◌+◌, List, [], ◌∷◌, refl, sym, ap, ◌∙◌, codes}
+-- What a folder opens as, by what its three files hold.
+use Rattle.std.proofs.Common.{◌≡◌, ℕ, ◌+◌, List, [], ◌∷◌, refl, sym, ap, subst, ◌∙◌, codes}
 use Rattle.serde_json.specs.Data.{Data}
 use Rattle.eb_json.specs.Forms.{◌>>=◌}
 use Rattle.eb_scene.specs.declared.edits.Edit.{Edit}
@@ -22,8 +22,15 @@ use Rattle.eb_scene_text.specs.declared.faults.ProjectFault.TheVariants as proje
 use Rattle.eb_scene_text.specs.ReadFaults as project_faults
 use Rattle.eb_session.specs.declared.errors.Refusal.{Refusal}
 use Rattle.eb_session.specs.declared.errors.Refusal.TheVariants.{Memory, Line}
-use Rattle.eb_session.specs.Refusals.{refused_line, project_refusal}
-use Rattle.eb_session.specs.Opening.{first_state, schema_in, project_in, document_in, and_then, or_refused, IsLine, ReadsAs, Opens, OpensAs, opened}
+use Rattle.eb_rule_text.specs.declared.trees.RulesTree.{RulesTree}
+use Rattle.eb_rules.specs.declared.faults.Refusal as refused
+use Rattle.eb_rules.specs.declared.faults.RuleFault.{RuleFault}
+use Rattle.eb_rules.specs.declared.faults.RuleFault.TheVariants as rule
+use Rattle.eb_rules.specs.Kept.{Kept}
+use Rattle.eb_rules.specs.Queries.{Tells}
+use Rattle.eb_session.specs.Refusals.{refused_line, rules_refusal, project_refusal}
+use Rattle.eb_session.specs.Machine.{State}
+use Rattle.eb_session.specs.Opening.{first_state, schema_in, read_rules, project_in, with_rules, with_schema, and_then, or_refused, IsLine, ReadsAs, Opens, opened}
 use Rattle.eb_session.specs.declared.errors.OpenEnd.{OpenEnd}
 use Rattle.eb_session.specs.declared.errors.OpenEnd.TheVariants as opening
 use Rattle.eb_session.specs.declared.errors.OpenEnd.TheVariants.{Refused, Shelf}
@@ -52,6 +59,13 @@ pub project-refused : (file : List ℕ) (words : ProjectFault → List ℕ) (fau
 project-refused file words project.Memory made r refuses memory line = memory_as r (or_refused file words made) (memory refl)
 project-refused file words (project.NotForm place) made r refuses memory line = refused_as file words (project.NotForm place) made r refuses line
 project-refused file words (project.Rule index fault) made r refuses memory line = refused_as file words (project.Rule index fault) made r refuses line
+
+-- a text that is no rules is refused by its fault
+pub rules-refused : (types : Types) (fault : RuleFault) (made : Result RulesTree refused.Refusal) (r : Refusal) → Tells made fault → (fault ≡ rule.Memory → r ≡ Memory) → IsLine r (refused_line (codes "bake.rules") (rules_refusal fault)) → ReadsAs (λ (k : Kept). k) (Err r) (read_rules types made)
+rules-refused types rule.Memory made r tells memory line = memory_as r (read_rules types made) (memory refl)
+rules-refused types (rule.At at kind) made Memory tells memory line = tt
+rules-refused types (rule.At at kind) made (Line text) tells memory line =
+    ap (read_rules types) tells.1.0 ∙ ap (λ n. Err (refused_line (codes "bake.rules") (rules_refusal (rule.At n kind)))) (sym tells.1.1) ∙ ap Err (sym line)
 
 -- ---- the schema of a project
 
@@ -91,27 +105,43 @@ pub opens-found : {X : Type 0} (want : Option (List ℕ) → Result X (List ℕ)
 opens-found want name None found x read is = tt
 opens-found want name (Some files) found x read is = ap want (sym read) ∙ is
 
--- both files are read
-pub opened-found : (files : Option Files) (types : Types) (g : Content) → IfSome files (λ f. schema_in (get f (codes "schema.json")) ≡ Ok types) → IfSome files (λ f. project_in types (get f (codes "project.json")) ≡ Ok g) → IfSome files (λ f. opened f ≡ Ok (first_state g))
-unfolding opened
-opened-found None types g schema project = tt
-opened-found (Some files) types g schema project =
-    ap (λ r. and_then (and_then r (λ t. project_in t (get files (codes "project.json")))) (λ p. Ok (first_state p))) schema ∙ ap (λ r. and_then r (λ p. Ok (first_state p))) project
+-- where a file was read, what comes of the folder is what comes of the files behind it
+pub then_opens : {X Y Z : Type 0} (want : Files → Result X (List ℕ)) (next : Files → X → Result Y (List ℕ)) (view : Z → Y) (files : Option Files) (x : X) (result : Result Z OpenEnd)
+    → IfSome files (λ f. want f ≡ Ok x) → IfSome files (λ f. Opens view result (next f x)) → IfSome files (λ f. Opens view result (and_then (want f) (next f)))
+then_opens want next view None x result read rest = tt
+then_opens want next view (Some files) x result read rest = subst (λ r. Opens view result (and_then r (next files))) (sym read) rest
 
--- `schema.json` isn't
-pub opened-no_schema : (files : Option Files) (end : OpenEnd) → IfSome files (λ f. Opens (λ (t : Types). t) (Err end) (schema_in (get f (codes "schema.json")))) → IfSome files (λ f. OpensAs (Err end) (opened f))
-unfolding opened
-opened-no_schema None end schema = tt
-opened-no_schema (Some files) (Refused line) schema =
-    ap (λ r. and_then (and_then r (λ t. project_in t (get files (codes "project.json")))) (λ p. Ok (first_state p))) schema
-opened-no_schema (Some files) opening.Memory schema = tt
-opened-no_schema (Some files) Shelf schema = tt
+refused_all : {X Y Z : Type 0} (view : Z → Y) (end : OpenEnd) (found : Result X (List ℕ)) (next : X → Result Y (List ℕ)) → Opens (λ (x : X). x) (Err end) found → Opens view (Err end) (and_then found next)
+refused_all view (Refused line) found next read = ap (λ r. and_then r next) read
+refused_all view opening.Memory found next read = tt
+refused_all view Shelf found next read = tt
 
--- `project.json` isn't
-pub opened-no_project : (files : Option Files) (types : Types) (end : OpenEnd) → IfSome files (λ f. schema_in (get f (codes "schema.json")) ≡ Ok types) → IfSome files (λ f. Opens (λ (g : Content). g) (Err end) (project_in types (get f (codes "project.json")))) → IfSome files (λ f. OpensAs (Err end) (opened f))
+-- where a file wasn't read, nothing comes of the folder
+pub none_opens : {X Y Z : Type 0} (want : Files → Result X (List ℕ)) (next : Files → X → Result Y (List ℕ)) (view : Z → Y) (files : Option Files) (end : OpenEnd)
+    → IfSome files (λ f. Opens (λ (x : X). x) (Err end) (want f)) → IfSome files (λ f. Opens view (Err end) (and_then (want f) (next f)))
+none_opens want next view None end read = tt
+none_opens want next view (Some files) end read = refused_all view end (want files) (next files) read
+
+ends_alike : {X Y Z : Type 0} (view : X → Z) (other : Y → Z) (end : OpenEnd) (want : Result Z (List ℕ)) → Opens view (Err end) want → Opens other (Err end) want
+ends_alike view other (Refused line) want told = told
+ends_alike view other opening.Memory want told = tt
+ends_alike view other Shelf want told = tt
+
+-- a folder that doesn't open, whatever it would be seen as
+pub still_ends : {X Y Z : Type 0} (view : X → Z) (other : Y → Z) (want : Files → Result Z (List ℕ)) (files : Option Files) (end : OpenEnd) → IfSome files (λ f. Opens view (Err end) (want f)) → IfSome files (λ f. Opens other (Err end) (want f))
+still_ends view other want None end told = tt
+still_ends view other want (Some files) end told = ends_alike view other end (want files) told
+
+-- the whole folder is what comes behind its schema
+pub opened_is : {Z : Type 0} (view : Z → State) (files : Option Files) (result : Result Z OpenEnd)
+    → IfSome files (λ f. Opens view result (and_then (schema_in (get f (codes "schema.json"))) (with_schema f))) → IfSome files (λ f. Opens view result (opened f))
 unfolding opened
-opened-no_project None types end schema project = tt
-opened-no_project (Some files) types (Refused line) schema project =
-    ap (λ r. and_then (and_then r (λ t. project_in t (get files (codes "project.json")))) (λ p. Ok (first_state p))) schema ∙ ap (λ r. and_then r (λ p. Ok (first_state p))) project
-opened-no_project (Some files) types opening.Memory schema project = tt
-opened-no_project (Some files) types Shelf schema project = tt
+opened_is view files result told = told
+
+project_found : (types : Types) (rules : Kept) (files : Files) (g : Content) → project_in types (get files (codes "project.json")) ≡ Ok g → with_rules types files rules ≡ Ok (first_state rules g)
+project_found types rules files g read = ap (λ r. and_then r (λ p. Ok (first_state rules p))) read
+
+-- the project is read, under rules
+pub rules_open : (types : Types) (rules : Kept) (files : Option Files) (g : Content) → IfSome files (λ f. project_in types (get f (codes "project.json")) ≡ Ok g) → IfSome files (λ f. with_rules types f rules ≡ Ok (first_state rules g))
+rules_open types rules None g read = tt
+rules_open types rules (Some files) g read = project_found types rules files g read

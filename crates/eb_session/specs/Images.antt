@@ -1,9 +1,12 @@
 -- The image of section 0 of scene 1, and which projects are published.
-use Rattle.std.specs.Prelude.{ℕ, Bool, true, false, ◌&&◌, ◌==◌, not, is_some, option_map, cond, Option, None, Some, List, [], ◌∷◌, map}
+use Rattle.std.specs.Prelude.{ℕ, Bool, true, false, ◌&&◌, ◌||◌, ◌==◌, nat_le, not, is_some, option_map, Option, None, Some, List, [], ◌∷◌, length, map}
 use Rattle.std.specs.List.{list_all, list_any}
-use Rattle.std.specs.Map.{keys_of}
+use Rattle.std.specs.FinMap.{entries, len}
+use Rattle.eb_base.specs.Arithmetic.{fits_i64}
 use Rattle.eb_base.specs.declared.names.Name.{Name}
 use Rattle.eb_base.specs.declared.names.Place.{Place}
+use Rattle.eb_schema.specs.BakedEntities.{Entities}
+use Rattle.eb_schema.specs.declared.baked.BakedEntity.{BakedEntity}
 use Rattle.eb_schema.specs.declared.kinds.Kind.{Kind}
 use Rattle.eb_schema.specs.declared.kinds.Kind.TheVariants as kind
 use Rattle.eb_schema.specs.declared.kinds.Mode.{Mode}
@@ -13,8 +16,9 @@ use Rattle.eb_schema.specs.declared.rows.Cell.{Cell}
 use Rattle.eb_schema.specs.declared.rows.Val.{Val}
 use Rattle.eb_schema.specs.declared.rows.Val.TheVariants as val
 use Rattle.eb_schema.specs.Schemas.{Types, component_of}
-use Rattle.eb_scene.specs.Projects.{Content, numbered, objects_of, section_in}
-use Rattle.eb_copy.specs.Copying.{row_in}
+use Rattle.eb_scene.specs.Projects.{Content, numbered}
+use Rattle.eb_rules.specs.Kept.{Kept}
+use Rattle.eb_bake.specs.Baking.{staged_of}
 use Rattle.eb_file.specs.declared.images.Link.TheVariants as link
 use Rattle.eb_file.specs.declared.images.Stored.{Stored}
 use Rattle.eb_file.specs.declared.images.Stored.TheVariants as stored
@@ -38,17 +42,13 @@ stored_of val.Gone = stored.Link link.Null
 abbrev pub stored_cell : Cell → StoredCell
 stored_cell c = record { kind = c.kind; values = map stored_of c.values }
 
--- the own entity of an object of scene 1
-abbrev pub own_name : ℕ → Name
-own_name object = record { play = 0; scene = 1; object = object; extra = 0 }
+-- an entity, as it is stored
+abbrev pub stored_row : Name × BakedEntity → ImageRow
+stored_row e = record { name = e.0; cells = map stored_cell e.1.row }
 
--- the object's own entity, as it is stored
-abbrev pub stored_row : Content → ℕ → ImageRow
-stored_row g object = record { name = own_name object; cells = map stored_cell (row_in g 1 object) }
-
--- the image of the section: the entities of all objects of scene 1, ascending by name
-abbrev pub image_of : Content → Image
-image_of g = record { place = the_place; rows = map (stored_row g) (keys_of (objects_of g 1)) }
+-- the image of the section: all entities, ascending by name
+abbrev pub image_of : Entities → Image
+image_of all = record { place = the_place; rows = map stored_row (entries all) }
 
 -- ---- which projects are published
 
@@ -67,23 +67,40 @@ is_whole_number kind.Ref = false
 is_whole_number kind.Asset = false
 
 -- a type that is stored, all of whose fields are whole numbers of 64 bits
-abbrev pub is_plain_type : Option Component → Bool
-is_plain_type None = false
-is_plain_type (Some c) = is_stored c.mode && list_all (λ f. is_whole_number f.kind) c.fields
+abbrev pub is_plain_type : Component → Bool
+is_plain_type t = is_stored t.mode && list_all (λ f. is_whole_number f.kind) t.fields
+
+abbrev pub is_whole : Val → Bool
+is_whole (val.Num z) = fits_i64 z
+is_whole (val.To name) = false
+is_whole val.Null = false
+is_whole val.Gone = false
+
+-- one whole number for each field of such a type
+abbrev pub is_plain_cell : Option Component → List Val → Bool
+is_plain_cell None values = false
+is_plain_cell (Some t) values = is_plain_type t && ((length values == length t.fields) && list_all is_whole values)
 
 -- a row of one cell, of type 1, which is such a type
 abbrev pub is_plain_row : Types → List Cell → Bool
 is_plain_row types [] = false
-is_plain_row types (c ∷ []) = (c.kind == 1) && is_plain_type (component_of types 1)
+is_plain_row types (c ∷ []) = (c.kind == 1) && is_plain_cell (component_of types 1) c.values
 is_plain_row types (c ∷ d ∷ cs) = false
 
-abbrev pub is_zero : Option ℕ → Bool
-is_zero None = false
-is_zero (Some k) = k == 0
+-- the extra of an object's own entity, or one that a baker may give
+abbrev pub is_extra : ℕ → Bool
+is_extra k = (k == 0) || (nat_le 17 k && nat_le k 1040)
 
--- an object of section 0 whose entity has such a row
-abbrev pub is_plain_object : Content → ℕ → Bool
-is_plain_object g object = is_zero (section_in g 1 object) && is_plain_row g.schema (row_in g 1 object)
+-- a name that baking gives in scene 1
+abbrev pub is_baked_name : Name → Bool
+is_baked_name n = ((n.play == 0) && (n.scene == 1)) && ((nat_le 1 n.object && nat_le n.object 4294967295) && is_extra n.extra)
+
+abbrev pub is_the_place : Place → Bool
+is_the_place p = (p.scene == 1) && (p.section == 0)
+
+-- an entity of the section with such a row
+abbrev pub is_plain_entity : Types → Name × BakedEntity → Bool
+is_plain_entity types e = is_baked_name e.0 && (is_the_place e.1.place && is_plain_row types e.1.row)
 
 -- the numbers of all scenes but 1
 abbrev pub other_scenes : List ℕ
@@ -96,31 +113,35 @@ has_scene g s = is_some (numbered g.scenes s)
 abbrev pub has_scene_one_alone : Content → Bool
 has_scene_one_alone g = has_scene g 1 && not (list_any (has_scene g) other_scenes)
 
--- Scene 1 is there alone, and all its objects are plain: no entity has a component of another mode than stored, no
--- section but 1:0 is there, and each row of its image has just one cell, of type 1, whose fields are whole numbers.
-abbrev pub is_plain : Content → Bool
-is_plain g = has_scene_one_alone g && list_all (is_plain_object g) (keys_of (objects_of g 1))
+-- The guard on what is published: scene 1 is there alone, and all its entities, at most 65,536, are plain. So no entity
+-- has a component of another mode than stored, no section but 1:0 is there, and each row of its image has just one
+-- cell, of type 1, whose fields are whole numbers.
+abbrev pub is_plain : Content → Entities → Bool
+is_plain g all = (nat_le (len all) 65536 && has_scene_one_alone g) && list_all (is_plain_entity g.schema) (entries all)
 
-abbrev pub image_where : Bool → Content → Option Image
-image_where true g = Some (image_of g)
-image_where false g = None
+abbrev pub image_where : Bool → Entities → Option Image
+image_where true all = Some (image_of all)
+image_where false all = None
 
--- the image that a publication of the project writes; none where the project isn't published yet
-unfoldable pub image_in : Content → Option Image
-image_in g = image_where (is_plain g) g
+abbrev pub guarded_image : Content → Entities → Option Image
+guarded_image g all = image_where (is_plain g all) all
+
+-- the image that a publication of a project under rules writes; none where the project isn't published yet
+unfoldable pub image_in : Kept → Content → Option Image
+image_in rules g = guarded_image g (staged_of rules g).entities
 
 -- ---- rows one after the other
 
--- the stored row of an object that is plain
-abbrev pub row_where : Bool → Content → ℕ → Option ImageRow
-row_where true g object = Some (stored_row g object)
-row_where false g object = None
+-- the stored row of an entity that is plain
+abbrev pub row_where : Bool → Name × BakedEntity → Option ImageRow
+row_where true e = Some (stored_row e)
+row_where false e = None
 
 abbrev pub before_rows : Option ImageRow → Option (List ImageRow) → Option (List ImageRow)
 before_rows None rows = None
 before_rows (Some row) rows = option_map (λ rs. row ∷ rs) rows
 
--- the stored rows of these objects, none where one of them isn't plain
-unfoldable pub all_rows : Content → List ℕ → Option (List ImageRow)
-all_rows g [] = Some []
-all_rows g (object ∷ objects) = before_rows (row_where (is_plain_object g object) g object) (all_rows g objects)
+-- the stored rows of these entities, none where one of them isn't plain
+unfoldable pub all_rows : Types → List (Name × BakedEntity) → Option (List ImageRow)
+all_rows types [] = Some []
+all_rows types (e ∷ es) = before_rows (row_where (is_plain_entity types e) e) (all_rows types es)

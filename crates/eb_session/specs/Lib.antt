@@ -5,3 +5,4 @@ pub mod Refusals
 pub mod Images
 pub mod Machine
 pub mod Opening
+pub mod Folders

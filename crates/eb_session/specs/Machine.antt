@@ -8,7 +8,7 @@ use Rattle.eb_outside.specs.Shelves.{Files}
 use Rattle.eb_schema.specs.Schemas.{Types}
 use Rattle.eb_file.specs.declared.images.Image.{Image}
 use Rattle.eb_file.specs.Spelling.{spelling}
-use Rattle.eb_file.specs.Images.{IsValid, IsPlain, names_of}
+use Rattle.eb_file.specs.Images.{IsValid, names_of}
 use Rattle.eb_base.specs.declared.names.Name.{Name}
 use Rattle.eb_base.specs.Names.{coded_name}
 use Rattle.eb_schema.specs.declared.rows.Cell.{Cell}
@@ -19,19 +19,22 @@ use Rattle.eb_scene.specs.declared.edits.EditFault.{EditFault}
 use Rattle.eb_scene.specs.Projects.{Content}
 use Rattle.eb_scene.specs.Edits.{edited}
 use Rattle.eb_scene_text.specs.ProjectText.{canonical}
-use Rattle.eb_copy.specs.Copying.{runs}
-use Rattle.eb_copy.specs.Rerun.{rerun}
+use Rattle.eb_rules.specs.Kept.{Kept, coded_kept}
+use Rattle.eb_eval.specs.Runs.{runs_of}
+use Rattle.eb_bake.specs.Baking.{issues_of, rerun}
+use Rattle.eb_bake.specs.IssueTexts.{issue_lines}
 use Rattle.eb_stream.specs.Loading.{AllOf, HasNumbersAlone, loaded, unloaded}
 use Rattle.eb_session.specs.Images.{the_place, image_in}
 use Rattle.eb_session.specs.Requests.{request_of}
-use Rattle.eb_session.specs.Replies.{rebaked_text, published_text, loaded_text, unloaded_text, dumped_text, project_reply, edit_refused_text, no_request_text, not_yet_text, no_section_text, already_loaded_text, not_loaded_text}
+use Rattle.eb_session.specs.Replies.{rebaked_text, published_text, loaded_text, unloaded_text, dumped_text, issues_text, project_reply, edit_refused_text, no_request_text, not_yet_text, no_section_text, already_loaded_text, not_loaded_text}
 use Rattle.eb_session.specs.declared.requests.Request.{Request}
 use Rattle.eb_session.specs.declared.requests.Request.TheVariants as request
 use Rattle.eb_session.specs.declared.requests.RequestFault.{RequestFault}
 
--- The project, the number of the last publication (0 before the first), the image of section 1:0 as last
+-- The rules, the project, the number of the last publication (0 before the first), the image of section 1:0 as last
 -- published, whether it is loaded, what lives in the world, and how many entities were ever made there.
 pub record State : Type 0 where
+  pub rules : Kept
   pub project : Content
   pub generation : ℕ
   pub published : Option Image
@@ -82,6 +85,7 @@ abbrev pub publication : Bool → Image → ℕ → State → Files → Step
 publication true image generation state files =
     step (published_text generation 1 (times_loaded state.is_loaded))
     (record {
+      rules = state.rules;
       project = state.project;
       generation = generation;
       published = Some image;
@@ -92,7 +96,7 @@ publication true image generation state files =
     (insert files (section_name generation) (bytes_of state.project.schema image))
 publication false image generation state files =
     step (published_text generation 0 0)
-    (record { project = state.project; generation = generation; published = state.published; is_loaded = state.is_loaded; live = state.live; made = state.made }) files
+    (record { rules = state.rules; project = state.project; generation = generation; published = state.published; is_loaded = state.is_loaded; live = state.live; made = state.made }) files
 
 abbrev pub published_as : Option Image → State → Files → Step
 published_as (Some image) state files =
@@ -101,23 +105,28 @@ published_as None state files = step not_yet_text state files
 
 -- the image of the project as it stands; a project of another form isn't published yet
 unfoldable pub published : State → Files → Step
-published state files = published_as (image_in state.project) state files
+published state files = published_as (image_in state.rules state.project) state files
 
 -- ---- edits
 
 -- the state with another project
 abbrev pub with_project : State → Content → State
 with_project state project =
-    record { project = project; generation = state.generation; published = state.published; is_loaded = state.is_loaded; live = state.live; made = state.made }
+    record { rules = state.rules; project = project; generation = state.generation; published = state.published; is_loaded = state.is_loaded; live = state.live; made = state.made }
 
 -- an edit is accepted, or the first rule that it breaks is the reply
 abbrev pub edit_ended : Edit → Result Content EditFault → State → Files → Step
 edit_ended edit (Ok project) state files =
-    step (rebaked_text (length (rerun state.project edit project)) (length (runs project))) (with_project state project) files
+    step (rebaked_text (length (rerun state.rules state.project edit project)) (length (runs_of state.rules project))) (with_project state project) files
 edit_ended edit (Err fault) state files = step (edit_refused_text fault) state files
 
 abbrev pub edit_step : Edit → State → Files → Step
 edit_step edit state files = edit_ended edit (edited state.project edit) state files
+
+-- what baking left out, as text
+abbrev pub issues_step : State → Files → Step
+issues_step state files =
+    step (issues_text (issue_lines state.project.schema (issues_of state.rules state.project)) (length (issues_of state.rules state.project))) state files
 
 -- the project as text
 abbrev pub project_step : State → Files → Step
@@ -128,7 +137,7 @@ project_step state files = step (project_reply (canonical state.project)) state 
 -- the state with another world
 abbrev pub with_world : State → Bool → Live → ℕ → State
 with_world state is_loaded live made =
-    record { project = state.project; generation = state.generation; published = state.published; is_loaded = is_loaded; live = live; made = made }
+    record { rules = state.rules; project = state.project; generation = state.generation; published = state.published; is_loaded = is_loaded; live = live; made = made }
 
 -- the section comes into the world as it was last published
 abbrev pub load : Option Image → Bool → State → Files → Step
@@ -149,14 +158,14 @@ abbrev pub published_at : Bool → Option Image → Option Image
 published_at true published = published
 published_at false published = None
 
-abbrev pub is_the_place : ℕ → ℕ → Bool
-is_the_place scene section = (scene == 1) && (section == 0)
+abbrev pub names_the_place : ℕ → ℕ → Bool
+names_the_place scene section = (scene == 1) && (section == 0)
 
 abbrev pub load_step : ℕ → ℕ → State → Files → Step
-load_step scene section state files = load (published_at (is_the_place scene section) state.published) state.is_loaded state files
+load_step scene section state files = load (published_at (names_the_place scene section) state.published) state.is_loaded state files
 
 abbrev pub unload_step : ℕ → ℕ → State → Files → Step
-unload_step scene section state files = unload (published_at (is_the_place scene section) state.published) state.is_loaded state files
+unload_step scene section state files = unload (published_at (names_the_place scene section) state.published) state.is_loaded state files
 
 -- every entity of the world, ascending by name
 abbrev pub dumped : State → Files → Step
@@ -168,6 +177,7 @@ abbrev pub performed : Request → State → Files → Step
 performed (request.Edit edit) state files = edit_step edit state files
 performed request.Publish state files = published state files
 performed request.Dump state files = dumped state files
+performed request.Issues state files = issues_step state files
 performed request.Project state files = project_step state files
 performed (request.Load scene section) state files = load_step scene section state files
 performed (request.Unload scene section) state files = unload_step scene section state files
@@ -187,7 +197,7 @@ pub record IsSection (types : Types) (image : Image) : Type 0 where
   pub valid : IsValid types image
   pub numbers : HasNumbersAlone image
   pub place : image.place ≡ the_place
-  pub count : length image.rows ≤ 16384
+  pub count : length image.rows ≤ 65536
 
 -- Each entity of the world is a row of the published image of its section, and that section is loaded.
 pub record IsKept (state : State) : Type 0 where
@@ -201,7 +211,9 @@ pub record IsKept (state : State) : Type 0 where
 -- a state as the tuple of its parts
 abbrev pub state_code : Coded Content → Coded (List Cell) → Coded Image → Coded State
 state_code project row image =
-    code_by (Content × (ℕ × (Option Image × (Bool × (Live × ℕ)))))
-    (coded× project (coded× coded_ℕ (coded× (coded_option image) (coded× coded_bool (coded× (code coded_name (living_code row)) coded_ℕ)))))
-    (λ s. (s.project, (s.generation, (s.published, (s.is_loaded, (s.live, s.made))))))
-    (λ p. record { project = p.0; generation = p.1.0; published = p.1.1.0; is_loaded = p.1.1.1.0; live = p.1.1.1.1.0; made = p.1.1.1.1.1 }) (λ _. refl)
+    code_by (Kept × (Content × (ℕ × (Option Image × (Bool × (Live × ℕ))))))
+    (coded× coded_kept (coded× project (coded× coded_ℕ (coded× (coded_option image) (coded× coded_bool (coded× (code coded_name (living_code row)) coded_ℕ))))))
+    (λ s. (s.rules, (s.project, (s.generation, (s.published, (s.is_loaded, (s.live, s.made)))))))
+    (λ p.
+    record { rules = p.0; project = p.1.0; generation = p.1.1.0; published = p.1.1.1.0; is_loaded = p.1.1.1.1.0; live = p.1.1.1.1.1.0; made = p.1.1.1.1.1.1 })
+    (λ _. refl)

@@ -6,11 +6,13 @@ use Rattle.eb_outside.specs.Shelves.{Files}
 use Rattle.eb_json.specs.Documents.{document_of}
 use Rattle.eb_schema.specs.Schemas.{Types}
 use Rattle.eb_schema.specs.SchemaTests.{schema_of}
-use Rattle.eb_schema.specs.declared.faults.SchemaFault.{SchemaFault}
 use Rattle.eb_scene.specs.Projects.{Content}
 use Rattle.eb_scene_text.specs.ProjectForm.{project_of}
-use Rattle.eb_scene_text.specs.declared.faults.ProjectFault.{ProjectFault}
-use Rattle.eb_session.specs.Refusals.{refused_line, schema_refusal, project_refusal}
+use Rattle.eb_rule_text.specs.declared.trees.RulesTree.{RulesTree}
+use Rattle.eb_rules.specs.declared.faults.Refusal as rule
+use Rattle.eb_rules.specs.Kept.{Kept}
+use Rattle.eb_rules.specs.Queries.{rules_of}
+use Rattle.eb_session.specs.Refusals.{refused_line, schema_refusal, rules_refusal, told_refusal, project_refusal}
 use Rattle.eb_session.specs.Machine.{State}
 use Rattle.eb_session.specs.declared.errors.Refusal.{Refusal}
 use Rattle.eb_session.specs.declared.errors.Refusal.TheVariants as refusal
@@ -43,20 +45,37 @@ and_then (Err line) f = Err line
 unfoldable pub schema_in : Option (List ℕ) → Result Types (List ℕ)
 schema_in found = and_then (document_in (codes "schema.json") found) (λ d. or_refused (codes "schema.json") schema_refusal (schema_of d))
 
+-- the rules that were read under a schema
+abbrev pub kept_with : Types → RulesTree → Kept
+kept_with types tree = record { schema = types; tree = tree }
+
+-- what a text was read as, or the line that refuses `bake.rules`
+abbrev pub read_rules : Types → Result RulesTree rule.Refusal → Result Kept (List ℕ)
+read_rules types (Ok tree) = Ok (kept_with types tree)
+read_rules types (Err refusal) = Err (refused_line (codes "bake.rules") (rules_refusal (told_refusal refusal)))
+
+unfoldable pub rules_in : Types → Option (List ℕ) → Result Kept (List ℕ)
+rules_in types None = Err (refused_line (codes "bake.rules") (codes "Missing"))
+rules_in types (Some text) = read_rules types (rules_of types text)
+
 unfoldable pub project_in : Types → Option (List ℕ) → Result Content (List ℕ)
 project_in types found = and_then (document_in (codes "project.json") found) (λ d. or_refused (codes "project.json") project_refusal (project_of types d))
 
 -- nothing is published, and nothing lives
-abbrev pub first_state : Content → State
-first_state project = record { project = project; generation = 0; published = None; is_loaded = false; live = empty; made = 0 }
+abbrev pub first_state : Kept → Content → State
+first_state rules project = record { rules = rules; project = project; generation = 0; published = None; is_loaded = false; live = empty; made = 0 }
 
--- the project of the folder: `schema.json` comes first, and then `project.json`
-abbrev pub project_of_files : Files → Result Content (List ℕ)
-project_of_files files = and_then (schema_in (get files (codes "schema.json"))) (λ types. project_in types (get files (codes "project.json")))
+-- the project under this schema and these rules
+abbrev pub with_rules : Types → Files → Kept → Result State (List ℕ)
+with_rules types files rules = and_then (project_in types (get files (codes "project.json"))) (λ project. Ok (first_state rules project))
 
--- the first state, or the line of the first refusal
+-- the rules under this schema, and then the project
+abbrev pub with_schema : Files → Types → Result State (List ℕ)
+with_schema files types = and_then (rules_in types (get files (codes "bake.rules"))) (with_rules types files)
+
+-- the first state, or the line of the first refusal: `schema.json` comes first, then `bake.rules`, and then `project.json`
 unfoldable pub opened : Files → Result State (List ℕ)
-opened files = and_then (project_of_files files) (λ project. Ok (first_state project))
+opened files = and_then (schema_in (get files (codes "schema.json"))) (with_schema files)
 
 -- a refusal that is this line, unless memory ran out
 abbrev pub IsLine : Refusal → List ℕ → Type 0

@@ -26,6 +26,10 @@ unloaded_text count = codes "ok unloaded " ++ decimal count ++ codes "\n"
 unfoldable pub dumped_text : List ℕ → ℕ → List ℕ
 dumped_text entities count = entities ++ codes "ok dumped " ++ decimal count ++ codes "\n"
 
+-- the lines of all issues, so many of them
+unfoldable pub issues_text : List ℕ → ℕ → List ℕ
+issues_text lines count = lines ++ codes "ok issues " ++ decimal count ++ codes "\n"
+
 -- the canonical text of the project
 unfoldable pub project_reply : List ℕ → List ℕ
 project_reply text = text ++ codes "ok project\n"

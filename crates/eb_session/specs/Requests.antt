@@ -26,8 +26,8 @@ asked make (Err fault) = Err (fault_of fault)
 -- the words of requests that aren't answered yet
 unfoldable pub is_later : List ℕ → Bool
 is_later word =
-    bytes_eq word (codes "issues") || bytes_eq word (codes "rows") || bytes_eq word (codes "count") || bytes_eq word (codes "sum")
-    || bytes_eq word (codes "max") || bytes_eq word (codes "job") || bytes_eq word (codes "buffer")
+    bytes_eq word (codes "rows") || bytes_eq word (codes "count") || bytes_eq word (codes "sum") || bytes_eq word (codes "max")
+    || bytes_eq word (codes "job") || bytes_eq word (codes "buffer")
 
 -- {"do":WORD}
 unfoldable pub alone : Request → Data → Result Request RequestFault
@@ -52,6 +52,7 @@ by_word word d =
     if is_later word then Err NotYet
     else if bytes_eq word (codes "publish") then alone request.Publish d
     else if bytes_eq word (codes "dump") then alone request.Dump d
+    else if bytes_eq word (codes "issues") then alone request.Issues d
     else if bytes_eq word (codes "project") then alone request.Project d
     else if bytes_eq word (codes "load") then asked (λ p. request.Load p.0 p.1) (place_form d)
     else if bytes_eq word (codes "unload") then asked (λ p. request.Unload p.0 p.1) (place_form d)
@@ -88,6 +89,7 @@ abbrev pub IsRequest : Request → Type 0
 IsRequest (request.Edit edit) = IsEdit edit
 IsRequest request.Publish = ⊤
 IsRequest request.Dump = ⊤
+IsRequest request.Issues = ⊤
 IsRequest request.Project = ⊤
 IsRequest (request.Load scene section) = ⊤
 IsRequest (request.Unload scene section) = ⊤

@@ -7,7 +7,7 @@ use eb_outside::OutsideError;
 use std::alloc::AllocError;
 
 /// Why a line has no answer. The session isn't used again then.
-#[derive(Clone, Copy, Debug, PartialEq, Eq)]
+#[derive(Clone, Copy)]
 pub enum SessionEnd {
     /// Want of memory.
     Memory,
@@ -16,7 +16,7 @@ pub enum SessionEnd {
 }
 
 /// Why a session doesn't open.
-#[derive(Debug, Drop)]
+#[derive(Drop)]
 pub enum OpenEnd {
     /// Want of memory.
     Memory,
@@ -30,7 +30,7 @@ pub enum OpenEnd {
 }
 
 /// Why a file isn't read as what it is to hold.
-#[derive(Debug, Drop)]
+#[derive(Drop)]
 pub enum Refusal {
     /// Want of memory.
     Memory,

@@ -1,17 +1,18 @@
-// The image of section 0 of scene 1, from the project.
-ghost use Rattle.std.specs.Prelude.{◌≡◌, List, IfOk, IfSome, option_map, map};
+// The image of section 0 of scene 1, from what is baked.
+ghost use Rattle.std.specs.Prelude.{◌≡◌, IfOk, IfSome, false, option_map, map};
 ghost use Rattle.std.specs.List.{list_all, list_any};
+ghost use Rattle.std.specs.FinMap.{entries, len};
 ghost use Rattle.eb_schema.specs.Schemas.{component_of};
 ghost use Rattle.eb_file.specs.Images.{IsPlain};
 ghost use Rattle.eb_session.specs.Images as images;
-ghost use Rattle.eb_session.specs.Images.{stored_of, all_rows, row_where, other_scenes, image_in};
+ghost use Rattle.eb_session.specs.Images.{stored_of, all_rows, row_where, other_scenes, guarded_image, image_in};
 ghost use Rattle.eb_session.specs.Machine.{IsSection};
 
+use eb_bake::Baker;
 use eb_base::{Items, Memory, Name, Place, TypeNo};
-use eb_copy::CopyBaker;
 use eb_file::{Image, ImageRow, Link, Stored, StoredCell};
 use eb_scene::Project;
-use eb_schema::{Cell, Field, Kind, Mode, Row, Schema, Val};
+use eb_schema::{Baked, BakedEntity, Cell, Component, Field, Kind, Mode, Row, Schema, Val};
 use std::alloc::Global;
 
 /// The section that is published.
@@ -19,6 +20,9 @@ pub const THE_PLACE: Place = Place {
     scene: 1,
     section: 0,
 };
+
+/// The most entities that a section has.
+const MOST_ROWS: usize = 65536;
 
 /// A value as it is stored.
 fn stored_value(value: &Val) -> Stored
@@ -78,13 +82,41 @@ fn are_whole_numbers(fields: &[Field]) -> bool
     fields.iter().all(|field| is_whole_number(field.kind))
 }
 
-/// Whether component type 1 is stored and has whole numbers alone.
-fn is_plain_type(schema: &Schema) -> bool
-    ensures { result ≡ images.is_plain_type (component_of schema.now 1) }
+/// Whether a component type is stored and has whole numbers alone.
+fn is_plain_type(component: &Component) -> bool
+    ensures { result ≡ images.is_plain_type component.now }
+{
+    is_stored(component.mode) && are_whole_numbers(component.fields.items())
+}
+
+/// Whether a value is a whole number.
+fn is_whole(value: &Val) -> bool
+    ensures { result ≡ images.is_whole value.now }
+{
+    match value {
+        Val::Num(number) => {
+            let _number = *number;
+            true
+        }
+        Val::To(_) | Val::Null | Val::Gone => false,
+    }
+}
+
+/// Whether all values are whole numbers.
+fn are_whole(values: &[Val]) -> bool
+    ensures { result ≡ list_all images.is_whole values.now }
+{
+    values.iter().all(is_whole)
+}
+
+/// Whether values are one whole number for each field of component type 1, which is stored and has whole numbers alone.
+fn is_plain_cell(schema: &Schema, values: &[Val]) -> bool
+    ensures { result ≡ images.is_plain_cell (component_of schema.now 1) values.now }
 {
     match schema.component(TypeNo::FIRST) {
         Some(component) => {
-            is_stored(component.mode) && are_whole_numbers(component.fields.items())
+            is_plain_type(component)
+                && (values.len() == component.fields.items().len() && are_whole(values))
         }
         None => false,
     }
@@ -96,52 +128,62 @@ fn is_plain_row(schema: &Schema, row: &Row) -> bool
 {
     match row.cells() {
         [] => false,
-        [cell] => cell.kind.number() == 1 && is_plain_type(schema),
+        [cell] => cell.kind.number() == 1 && is_plain_cell(schema, cell.values.items()),
         [_, _, ..] => false,
     }
 }
 
-/// The stored row of an object of scene 1; none where the object is in another section, or its row isn't plain.
+/// Whether a name is one that baking gives in scene 1.
+fn is_baked_name(name: &Name) -> bool
+    ensures { result ≡ images.is_baked_name name.now }
+{
+    (name.play == 0 && name.scene == 1)
+        && (name.object != 0 && (name.extra == 0 || (17 <= name.extra && name.extra <= 1040)))
+}
+
+/// Whether a place is the section that is published.
+fn is_the_place(place: Place) -> bool
+    ensures { result ≡ images.is_the_place place }
+{
+    place.scene == 1 && place.section == 0
+}
+
+/// Whether an entity is in the section and its row is plain.
+fn is_plain_entity(schema: &Schema, name: &Name, entity: &BakedEntity) -> bool
+    ensures { result ≡ images.is_plain_entity schema.now (name.now, entity.now) }
+{
+    is_baked_name(name) && (is_the_place(entity.place) && is_plain_row(schema, &entity.row))
+}
+
+/// The stored row of an entity; none where it isn't in the section, or its row isn't plain.
 fn plain_row(
     alloc: Global,
-    baker: &CopyBaker,
     schema: &Schema,
-    object: u32,
+    name: &Name,
+    entity: &BakedEntity,
 ) -> Result<Option<ImageRow>, Memory>
-    requires { schema.now ≡ baker.now.schema }
-    ensures { IfOk result (λ row. row ≡ row_where (images.is_plain_object baker.now object) baker.now object) }
+    ensures { IfOk result (λ row. row ≡ row_where (images.is_plain_entity schema.now (name.now, entity.now)) (name.now, entity.now)) }
 {
-    if baker.project().section_of(1, object) != Some(0) {
-        return Ok(None);
-    }
-    let row = baker.row(1, object)?;
-    if !is_plain_row(schema, &row) {
+    if !is_plain_entity(schema, name, entity) {
         return Ok(None);
     }
     Ok(Some(ImageRow {
-        name: Name {
-            play: 0,
-            scene: 1,
-            object,
-            extra: 0,
-        },
-        cells: stored_cells(alloc, &row)?,
+        name: *name,
+        cells: stored_cells(alloc, &entity.row)?,
     }))
 }
 
-/// The stored rows of these objects of scene 1; none where one of them has none.
+/// The stored rows of all entities; none where one of them has none.
 fn plain_rows(
     alloc: Global,
-    baker: &CopyBaker,
     schema: &Schema,
-    objects: &[u32],
+    baked: &Baked,
 ) -> Result<Option<Vec<ImageRow>>, Memory>
-    requires { schema.now ≡ baker.now.schema }
-    ensures { IfOk result (λ rows. option_map (λ r. r.items) rows ≡ all_rows baker.now objects.now) }
+    ensures { IfOk result (λ rows. option_map (λ r. r.items) rows ≡ all_rows schema.now (entries baked.now)) }
 {
-    let mut rows = Vec::with_capacity(alloc, objects.len())?;
-    for object in objects {
-        match plain_row(alloc, baker, schema, *object)? {
+    let mut rows = Vec::with_capacity(alloc, baked.len())?;
+    for (name, entity) in baked.iter() {
+        match plain_row(alloc, schema, name, entity)? {
             Some(row) => rows.push(row)?,
             None => return Ok(None),
         }
@@ -166,23 +208,34 @@ fn has_scene_one_alone(project: &Project) -> bool
     project.has_scene(1) && !has_other_scene(project)
 }
 
-/// The image of section 1:0 as a publication writes it; none where the project isn't published yet: another scene or
-/// section is there, or an entity that hasn't just one component, of type 1, stored and of whole numbers alone.
-#[tactic(auto, unfolding(crate::specs::Images::image_in))]
-pub fn image(alloc: Global, baker: &CopyBaker) -> Result<Option<Image>, Memory>
-    ensures image { IfOk result (λ found. found ≡ image_in baker.now) }
-    ensures section { IfOk result (λ found. IfSome found (IsSection baker.now.schema)) }
-    ensures plain { IfOk result (λ found. IfSome found (IsPlain baker.now.schema)) }
+/// The image of section 1:0 as a publication of these entities writes it; none where the project isn't published yet:
+/// another scene or section is there, or an entity that hasn't just one component, of type 1, stored and of whole
+/// numbers alone, or more than 65,536 entities.
+fn image_of(alloc: Global, project: &Project, baked: &Baked) -> Result<Option<Image>, Memory>
+    ensures image { IfOk result (λ found. found ≡ guarded_image project.now baked.now) }
+    ensures section { IfOk result (λ found. IfSome found (IsSection project.now.schema)) }
+    ensures plain { IfOk result (λ found. IfSome found (IsPlain project.now.schema)) }
 {
-    let project = baker.project();
-    if !has_scene_one_alone(project) {
+    if baked.len() > MOST_ROWS || !has_scene_one_alone(project) {
         return Ok(None);
     }
-    match plain_rows(alloc, baker, project.schema(), project.objects(1))? {
+    match plain_rows(alloc, project.schema(), baked)? {
         Some(rows) => Ok(Some(Image {
             place: THE_PLACE,
             rows: Items::of(rows),
         })),
         None => Ok(None),
     }
+}
+
+/// The image of section 1:0 as a publication writes it, none where the project isn't published yet.
+#[tactic(auto, unfolding(crate::specs::Images::image_in))]
+pub fn image(alloc: Global, baker: &Baker) -> Result<Option<Image>, Memory>
+    requires { baker.now.spent ≡ false }
+    ensures image { IfOk result (λ found. found ≡ image_in baker.now.rules baker.now.project) }
+    ensures section { IfOk result (λ found. IfSome found (IsSection baker.now.project.schema)) }
+    ensures plain { IfOk result (λ found. IfSome found (IsPlain baker.now.project.schema)) }
+{
+    let found = image_of(alloc, baker.project(), baker.baked())?;
+    Ok(found)
 }

@@ -1,15 +1,17 @@
-// From the files of a folder to a schema and a project.
+// From the files of a folder to a schema, rules and a project.
 ghost use Rattle.std.specs.Prelude.{◌≡◌, codes, option_map, IfOk};
 ghost use Rattle.serde_json.specs.View.{view};
 ghost use Rattle.eb_session.specs.Opening as opening;
-ghost use Rattle.eb_session.specs.Opening.{ReadsAs, IsLine, or_refused};
-ghost use Rattle.eb_session.specs.Refusals.{refused_line, schema_refusal, project_refusal};
+ghost use Rattle.eb_session.specs.Opening.{ReadsAs, IsLine, or_refused, read_rules};
+ghost use Rattle.eb_session.specs.Refusals.{refused_line, schema_refusal, rules_refusal, project_refusal};
+ghost use Rattle.eb_rules.specs.Queries.{rules_of};
 ghost use Rattle.eb_schema.specs.SchemaTests as schema_tests;
 ghost use Rattle.eb_scene_text.specs.ProjectForm as project_form;
 
 use crate::errors::Refusal;
-use crate::refusals::{of_project, of_schema, refused};
+use crate::refusals::{of_project, of_rules, of_schema, refused};
 use eb_json::document;
+use eb_rules::{RuleFault, Rules};
 use eb_scene::Project;
 use eb_scene_text::{ProjectFault, project_read};
 use eb_schema::{Schema, SchemaFault};
@@ -18,6 +20,8 @@ use std::alloc::Global;
 
 /// The file of the schema.
 pub const SCHEMA_FILE: &str = "schema.json";
+/// The file of the rules.
+pub const RULES_FILE: &str = "bake.rules";
 /// The file of the project.
 pub const PROJECT_FILE: &str = "project.json";
 
@@ -75,6 +79,44 @@ pub fn schema_in(alloc: Global, found: Option<Vec<u8>>) -> Result<Schema, Refusa
 {
     let document = document_in(alloc, SCHEMA_FILE, found)?;
     schema_of(alloc, &document)
+}
+
+/// The refusal of a text that is no rules.
+fn rules_refused(alloc: Global, fault: RuleFault) -> Refusal
+    ensures memory { fault ≡ RuleFault.Memory → result ≡ Refusal.Memory }
+    ensures line { IsLine result (refused_line (codes "bake.rules") (rules_refusal fault)) }
+{
+    if matches!(fault, RuleFault::Memory) {
+        return Refusal::Memory;
+    }
+    match of_rules(alloc, fault) {
+        Ok(why) => refusal(alloc, RULES_FILE, why.as_str()),
+        Err(_) => Refusal::Memory,
+    }
+}
+
+/// The rules that a text is.
+fn rules_of_text(alloc: Global, schema: &Schema, text: &[u8]) -> Result<Rules, Refusal>
+    ensures read { ReadsAs (λ r. r) result (read_rules schema.now (rules_of schema.now text.now)) }
+    ensures schema { IfOk result (λ r. r.schema ≡ schema.now) }
+{
+    match Rules::read(alloc, text, schema) {
+        Ok(rules) => Ok(rules),
+        Err(fault) => Err(rules_refused(alloc, fault)),
+    }
+}
+
+/// The rules that the bytes of `bake.rules` are, or the line that refuses it.
+#[tactic(auto, unfolding(crate::specs::Opening::rules_in))]
+pub fn rules_in(alloc: Global, schema: &Schema, found: Option<Vec<u8>>) -> Result<Rules, Refusal>
+    ensures read { ReadsAs (λ r. r) result (opening.rules_in schema.now (option_map (λ v. v.items) found)) }
+    ensures schema { IfOk result (λ r. r.schema ≡ schema.now) }
+{
+    let Some(text) = found else {
+        return Err(refusal(alloc, RULES_FILE, "Missing"));
+    };
+    let rules = rules_of_text(alloc, schema, text.as_slice())?;
+    Ok(rules)
 }
 
 /// The refusal of a document that is no project.

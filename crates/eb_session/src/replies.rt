@@ -1,6 +1,6 @@
 // The texts of replies.
-ghost use Rattle.std.specs.Prelude.{◌≡◌, IfOk, string_bytes};
-ghost use Rattle.eb_session.specs.Replies.{rebaked_text, published_text, loaded_text, unloaded_text, dumped_text, project_reply, edit_refusal, edit_refused_text, no_request_text, not_yet_text, no_section_text, already_loaded_text, not_loaded_text};
+ghost use Rattle.std.specs.Prelude.{◌≡◌, ◌++◌, IfOk, string_bytes};
+ghost use Rattle.eb_session.specs.Replies.{rebaked_text, published_text, loaded_text, unloaded_text, dumped_text, issues_text, project_reply, edit_refusal, edit_refused_text, no_request_text, not_yet_text, no_section_text, already_loaded_text, not_loaded_text};
 
 use crate::requests::RequestFault;
 use eb_base::{Memory, Text};
@@ -8,7 +8,7 @@ use eb_scene::EditFault;
 use std::alloc::{AllocError, Global};
 
 /// The answer to one line.
-#[derive(Debug, Drop)]
+#[derive(Drop)]
 pub struct Reply {
     /// One line or more, each with its line feed.
     pub text: Text,
@@ -21,6 +21,17 @@ fn reply_of(text: String) -> Reply
     Reply {
         text: Text::from_vec(text.into_bytes()),
     }
+}
+
+/// The reply of lines and the last line behind them.
+fn behind(lines: Text, last: &[u8]) -> Result<Reply, Memory>
+    ensures { IfOk result (λ reply. reply.text ≡ lines ++ last.now) }
+{
+    let mut text = lines.into_vec();
+    text.extend_from_slice(last)?;
+    Ok(Reply {
+        text: Text::from_vec(text),
+    })
 }
 
 /// The reply to an accepted edit, which made so many runs anew, of so many that there are.
@@ -68,11 +79,16 @@ pub fn dumped(alloc: Global, entities: Text, count: u32) -> Result<Reply, Memory
     ensures { IfOk result (λ reply. reply.text ≡ dumped_text entities count) }
 {
     let end = format!(in alloc; "ok dumped {count}\n")?;
-    let mut text = entities.into_vec();
-    text.extend_from_slice(end.as_bytes())?;
-    Ok(Reply {
-        text: Text::from_vec(text),
-    })
+    Ok(behind(entities, end.as_bytes())?)
+}
+
+/// The reply that prints what baking left out: the lines of the issues, and how many they are.
+#[tactic(auto, unfolding(crate::specs::Replies::issues_text))]
+pub fn issues(alloc: Global, lines: Text, count: usize) -> Result<Reply, Memory>
+    ensures { IfOk result (λ reply. reply.text ≡ issues_text lines count) }
+{
+    let end = format!(in alloc; "ok issues {count}\n")?;
+    Ok(behind(lines, end.as_bytes())?)
 }
 
 /// The reply that prints the project.
@@ -80,11 +96,7 @@ pub fn dumped(alloc: Global, entities: Text, count: u32) -> Result<Reply, Memory
 pub fn project(printed: Text) -> Result<Reply, Memory>
     ensures { IfOk result (λ reply. reply.text ≡ project_reply printed) }
 {
-    let mut text = printed.into_vec();
-    text.extend_from_slice(b"ok project\n")?;
-    Ok(Reply {
-        text: Text::from_vec(text),
-    })
+    Ok(behind(printed, b"ok project\n")?)
 }
 
 /// The rule that an edit breaks, by number and name.

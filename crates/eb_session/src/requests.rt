@@ -18,14 +18,14 @@ use std::alloc::Global;
 pub const MOST_LINE_BYTES: usize = 65536;
 
 /// Where a line comes from.
-#[derive(Clone, Copy, Debug, PartialEq, Eq)]
+#[derive(Clone, Copy)]
 pub enum LineMode {
     /// From the input of a session, in which every request may come.
     Free,
 }
 
 /// What a line asks for.
-#[derive(Debug, Drop)]
+#[derive(Drop)]
 pub enum Request {
     /// A change of the project.
     Edit(Edit),
@@ -33,6 +33,8 @@ pub enum Request {
     Publish,
     /// Print every entity of the world.
     Dump,
+    /// Print what baking left out.
+    Issues,
     /// Print the project.
     Project,
     /// Load a section into the world, as it was last published.
@@ -52,7 +54,7 @@ pub enum Request {
 }
 
 /// Why a line is no request.
-#[derive(Clone, Copy, Debug, PartialEq, Eq)]
+#[derive(Clone, Copy)]
 pub enum RequestFault {
     /// Want of memory.
     Memory,
@@ -97,8 +99,7 @@ impl From<FormFault> for RequestFault {
 fn is_later(word: &str) -> bool
     ensures { result ≡ requests.is_later word.now }
 {
-    word == "issues"
-        || word == "rows"
+    word == "rows"
         || word == "count"
         || word == "sum"
         || word == "max"
@@ -175,6 +176,9 @@ fn of_word(alloc: Global, word: &str, value: &Value) -> Result<Request, RequestF
     }
     if word == "dump" {
         return word_alone(value, Request::Dump);
+    }
+    if word == "issues" {
+        return word_alone(value, Request::Issues);
     }
     if word == "project" {
         return word_alone(value, Request::Project);

@@ -57,7 +57,7 @@ pub fn new_world(alloc: Global, schema: &Schema) -> Result<World, Memory>
 fn bring_into_empty(alloc: Global, world: &mut World, image: &Image) -> Result<(), Memory>
     requires empty { world.old.live ≡ empty }
     requires section { IsSection world.old.types image.now }
-    requires made { world.old.made + 16384 < 2 ^ 62 }
+    requires made { world.old.made + 65536 < 2 ^ 62 }
     ensures live { OnOk result (world.new.live ≡ loaded world.old.live image.now) }
     ensures made { OnOk result (world.new.made ≡ world.old.made + length image.now.rows) }
     ensures err { OnErr result (world.new.live ≡ empty) }
@@ -79,7 +79,7 @@ pub fn bring_in(
 ) -> Result<(), Memory>
     requires empty { world.old.live ≡ empty }
     requires section { IsSection world.old.types image.now }
-    requires made { world.old.made + 16384 < 2 ^ 62 }
+    requires made { world.old.made + 65536 < 2 ^ 62 }
     ensures live { OnOk result (world.new.live ≡ loaded world.old.live image.now) }
     ensures made { OnOk result (world.new.made ≡ world.old.made + length image.now.rows) }
     ensures is_loaded { OnOk result (is_loaded.new ≡ true) }
@@ -115,7 +115,7 @@ pub fn take_over(
 ) -> Result<(), Memory>
     requires of_section { AllOf (Some the_place) world.old.live }
     requires section { IsSection world.old.types next.image }
-    requires made { world.old.made + 16384 < 2 ^ 62 }
+    requires made { world.old.made + 65536 < 2 ^ 62 }
     ensures published { OnOk result (published.new ≡ Some next) }
     ensures kept { OnErr result (published.new ≡ published.old) }
     ensures live { OnOk result (world.new.live ≡ refreshed_live is_loaded world.old.live next.image) }

@@ -1,22 +1,9 @@
 //! `ebake`: bakes a folder of authoring scenes into section files, by request lines.
 #![tactic(auto)]
 
-#[cfg(test)]
-mod cases;
-#[cfg(test)]
-mod edit_cases;
-mod limits;
-mod outlet;
-mod readers;
-mod runs;
-mod serving;
-mod stops;
-#[cfg(test)]
-mod tests;
-mod words;
-
 use eb_base::{Memory, Text};
 use eb_outside::{FolderShelf, StdSink, StdSource};
+use eb_run::run;
 use std::process::ExitCode;
 use std::rt::Env;
 use std::{env, io};
@@ -40,7 +27,7 @@ fn main(rt: HostRuntime) -> ExitCode {
     let mut shelf = FolderShelf::open(&rt);
     let mut source = StdSource::open(rt.reader());
     let mut sink = StdSink::open(io::writer(&rt));
-    let status = runs::run(
+    let status = run(
         &rt,
         rt.alloc(),
         words.as_slice(),

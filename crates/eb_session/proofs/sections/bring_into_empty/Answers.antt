@@ -10,6 +10,6 @@ load-requires-clause-fresh c k d within = ap (λ m. get m (slice_index_or c.args
 pub unreachable-requires : goal.unreachable-requires
 unreachable-requires c =
     let none : len c.args.world.now.live ≡ 0 = ap len c.requires.empty ∙ len-empty name_cmp Living in
-    let rows : length c.args.image.now.rows ≤ 16384 = c.requires.section.count in
+    let rows : length c.args.image.now.rows ≤ 65536 = c.requires.section.count in
     let full = rw c.in-Err-WorldFull.field-0-is at c.in-Err-WorldFull.ensures.ends in
     omega (arith, full.1)

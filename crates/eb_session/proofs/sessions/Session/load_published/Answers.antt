@@ -15,6 +15,6 @@ invariant_of-self-2 c = (
   c.bring_in.ensures.types ∙ c.self.invariant.0,
   c.self.invariant.1,
   IsKept-loaded _ c.self.inside.world.live c.in-Some.published.image (ap (option_map (λ (p : Published). p.image)) c.in-Some.is)
-      (published_section c.self.inside.baker.schema c.self.inside.published c.in-Some.published c.in-Some.is c.self.invariant.2.published)
+      (published_section c.self.inside.baker.project.schema c.self.inside.published c.in-Some.published c.in-Some.is c.self.invariant.2.published)
       c.in_ok-bring_in.ensures.is_loaded (nothing_lives _ c.self.invariant.2 c.if-self.false) c.in_ok-bring_in.ensures.live,
 )

@@ -12,3 +12,8 @@ pub returns-in_ok-print-in-Project-clause-step : goal.returns-in_ok-print-in-Pro
 returns-in_ok-print-in-Project-clause-step g c =
     let state = c.args.self.now in
     same_for_all (performed c.args.request.now state) (step c.in_ok-print-in-Project.field-0.text state) (g.H.Shelf.files c.args.shelf.now) (λ files. ap (λ r. performed r state files) c.in-Project.is ∙ c.in_ok-print-in-Project.ensures files)
+
+pub returns-in_ok-issues-in-Issues-clause-step : goal.returns-in_ok-issues-in-Issues-clause-step
+returns-in_ok-issues-in-Issues-clause-step g c =
+    let state = c.args.self.now in
+    same_for_all (performed c.args.request.now state) (step c.in_ok-issues-in-Issues.field-0.text state) (g.H.Shelf.files c.args.shelf.now) (λ files. ap (λ r. performed r state files) c.in-Issues.is ∙ c.in_ok-issues-in-Issues.ensures files)

@@ -1,0 +1,156 @@
+// The whole run: words, opening, lines, status.
+ghost use Rattle.std.specs.Prelude.{◌≡◌, ◌≢◌, ◌<◌, ◌≤◌, ◌-◌, ◌^◌, ◌⊎◌, ℕ, Bool, true, false, None, Ok, IfOk, IfSome, IsErrOf, ◌↔◌};
+ghost use Rattle.eb_outside.specs.Causes.{Rose};
+ghost use Rattle.eb_run.specs.Words.{is_form};
+ghost use Rattle.eb_session.specs.Opening.{opened, OpensAs};
+ghost use Rattle.eb_run.specs.Told.{told, ended, IsFaultless, IsRefused, IsWithin, WhereTold};
+ghost use Rattle.eb_run.specs.Progress.{IsFront, Follows, IsSpent};
+ghost use Rattle.eb_run.specs.Faults.{HasAnswered, IsAtOpening, IsAtPublication};
+
+use crate::limits::Limits;
+use crate::outlet::give_all;
+use crate::serving::answer_lines;
+use crate::stops::Stop;
+use crate::words::{is_session, usage};
+use eb_base::{Steps, Text};
+use eb_outside::{Shelf, Sink, Source};
+use eb_session::{OpenEnd, Session};
+use std::alloc::Global;
+use std::marker::Brand;
+use std::sync::ledger::{Blank, Ledger};
+use std::thread::Threads;
+
+/// Opens a session on the folder. Its steps are counted by themselves.
+fn open_session<H: Shelf, L: Ledger>(
+    blank: Blank,
+    alloc: Global,
+    shelf: &mut H,
+) -> Result<Session, OpenEnd>
+    requires name { blank.name ≡ L.name }
+    requires parts { blank.parts ≡ L.parts }
+    requires some { 0 < blank.parts }
+    ensures opened { IfSome (H.files shelf.old) (λ files. OpensAs result (opened files)) }
+    ensures first { IfOk result (λ session. session.generation ≡ 0) }
+    ensures empty { IfOk result (λ session. session.made ≡ 0) }
+    ensures files { H.files shelf.new ≡ H.files shelf.old }
+    ensures later { H.faults shelf.old ≤ H.faults shelf.new }
+    ensures cause { IsErrOf result OpenEnd.Shelf → Rose (H.faults shelf.old) (H.faults shelf.new) }
+{
+    let mut steps: Steps<L> = Steps::open(blank);
+    let session = Session::open(alloc, shelf, &mut steps)?;
+    Ok(session)
+}
+
+/// The status of the words' run, or why it stopped.
+fn outcome<H: Shelf, I: Source, O: Sink>(
+    alloc: Global,
+    limits: &Limits,
+    words: &[Text],
+    shelf: &mut H,
+    source: &mut I,
+    sink: &mut O,
+) -> Result<u8, Stop>
+    ensures told { Follows result
+        (told limits.now.lines limits.now.bytes words.now (H.files shelf.old) (I.left source.old) (O.put sink.old))
+        (H.files shelf.new) (I.left source.new) (O.put sink.new) }
+    ensures status { IfOk result (λ status. (status ≡ 0) ⊎ ((status ≡ 2) ⊎ (status ≡ 3))) }
+    ensures words { IfOk result (λ status. status ≡ 2 ↔ (is_form words.now ≡ false)) }
+    ensures refused { IfOk result (λ status. status ≡ 3 → (is_form words.now ≡ true) × IfSome (H.files shelf.old) IsRefused) }
+    ensures limit { IsErrOf result Stop.Limit → is_form words.now ≡ true }
+    ensures shelf { H.faults shelf.old ≤ H.faults shelf.new }
+    ensures source { I.faults source.old ≤ I.faults source.new }
+    ensures sink { O.faults sink.old ≤ O.faults sink.new }
+    ensures causes { IsErrOf result Stop.Outside → Rose (O.faults sink.old) (O.faults sink.new)
+        ⊎ ((Rose (I.faults source.old) (I.faults source.new) × HasAnswered (H.files shelf.old) (I.left source.old) (I.left source.new) (O.put sink.old) (O.put sink.new))
+        ⊎ (Rose (H.faults shelf.old) (H.faults shelf.new) × (IsAtOpening (I.left source.old) (I.left source.new) (O.put sink.old) (O.put sink.new)
+        ⊎ IsAtPublication limits.now.lines limits.now.bytes (H.files shelf.old) (I.left source.old) (O.put sink.old) (O.put sink.new)))) }
+    ensures spent { IfOk result (λ status. status ≡ 0 → IsSpent (I.left source.new)) }
+    ensures untouched { (is_form words.now ≡ false) ⊎ (result ≡ Ok 3) → (I.left source.new ≡ I.left source.old) × (I.faults source.new ≡ I.faults source.old) }
+{
+    if !is_session(words) {
+        give_all(sink, usage())?;
+        return Ok(2);
+    }
+    match open_session::<H, Brand>(Blank::new(1), alloc, shelf) {
+        Ok(session) => answer_lines(alloc, limits, session, shelf, source, sink),
+        Err(OpenEnd::Refused { line }) => {
+            give_all(sink, line.bytes())?;
+            Ok(3)
+        }
+        Err(OpenEnd::Shelf) => Err(Stop::Outside),
+        Err(OpenEnd::Memory) => Err(Stop::Memory),
+    }
+}
+
+/// Runs the program on the words behind its name, within limits, and answers its status.
+pub fn run_within<T: Threads + Sync, H: Shelf, I: Source, O: Sink>(
+    _rt: &T,
+    alloc: Global,
+    limits: &Limits,
+    words: &[Text],
+    shelf: &mut H,
+    source: &mut I,
+    sink: &mut O,
+) -> u8
+    ensures headline { IsFaultless (H.faults shelf.old) (H.faults shelf.new) (I.faults source.old) (I.faults source.new) (O.faults sink.old) (O.faults sink.new) → result ≢ 4 →
+        told limits.now.lines limits.now.bytes words.now (H.files shelf.old) (I.left source.old) (O.put sink.old)
+        ≡ ended result (H.files shelf.new) (I.left source.new) (O.put sink.new) }
+    ensures told { result ≢ 1 → result ≢ 4 →
+        told limits.now.lines limits.now.bytes words.now (H.files shelf.old) (I.left source.old) (O.put sink.old)
+        ≡ ended result (H.files shelf.new) (I.left source.new) (O.put sink.new) }
+    ensures complete { IsFaultless (H.faults shelf.old) (H.faults shelf.new) (I.faults source.old) (I.faults source.new) (O.faults sink.old) (O.faults sink.new) →
+        WhereTold (H.files shelf.old) (I.left source.old) (O.put sink.old) (λ files input held. IsWithin limits.now.lines limits.now.bytes words.now files input → (result ≡ 4) ⊎ (result ≡ 0)) }
+    ensures front { (result ≡ 1) ⊎ (result ≡ 4) → IsFront (O.put sink.new)
+        (told limits.now.lines limits.now.bytes words.now (H.files shelf.old) (I.left source.old) (O.put sink.old)) }
+    ensures done { result ≡ 0 → (is_form words.now ≡ true) × IsSpent (I.left source.new) }
+    ensures causes { result ≡ 1 → Rose (O.faults sink.old) (O.faults sink.new)
+        ⊎ ((Rose (I.faults source.old) (I.faults source.new) × HasAnswered (H.files shelf.old) (I.left source.old) (I.left source.new) (O.put sink.old) (O.put sink.new))
+        ⊎ (Rose (H.faults shelf.old) (H.faults shelf.new) × (IsAtOpening (I.left source.old) (I.left source.new) (O.put sink.old) (O.put sink.new)
+        ⊎ IsAtPublication limits.now.lines limits.now.bytes (H.files shelf.old) (I.left source.old) (O.put sink.old) (O.put sink.new)))) }
+    ensures words { result ≡ 2 → is_form words.now ≡ false }
+    ensures no_form { is_form words.now ≡ false → (result ≡ 2) ⊎ ((result ≡ 1) ⊎ (result ≡ 4)) }
+    ensures refused { result ≡ 3 → (is_form words.now ≡ true) × IfSome (H.files shelf.old) IsRefused }
+    ensures untouched { (is_form words.now ≡ false) ⊎ (result ≡ 3) → (I.left source.new ≡ I.left source.old) × (I.faults source.new ≡ I.faults source.old) }
+    ensures range { result ≤ 5 }
+{
+    match outcome(alloc, limits, words, shelf, source, sink) {
+        Ok(status) => status,
+        Err(Stop::Outside) => 1,
+        Err(Stop::Memory) => 4,
+        Err(Stop::Limit) => 5,
+    }
+}
+
+/// Runs the program on the words behind its name, and answers its status: 0 done, 1 a counted fault of the
+/// outside, 2 words that are no form, 3 a refused folder, 4 want of memory, 5 a limit.
+pub fn run<T: Threads + Sync, H: Shelf, I: Source, O: Sink>(
+    rt: &T,
+    alloc: Global,
+    words: &[Text],
+    shelf: &mut H,
+    source: &mut I,
+    sink: &mut O,
+) -> u8
+    ensures headline { IsFaultless (H.faults shelf.old) (H.faults shelf.new) (I.faults source.old) (I.faults source.new) (O.faults sink.old) (O.faults sink.new) → result ≢ 4 →
+        told (2 ^ 32 - 1) (2 ^ 40) words.now (H.files shelf.old) (I.left source.old) (O.put sink.old)
+        ≡ ended result (H.files shelf.new) (I.left source.new) (O.put sink.new) }
+    ensures told { result ≢ 1 → result ≢ 4 →
+        told (2 ^ 32 - 1) (2 ^ 40) words.now (H.files shelf.old) (I.left source.old) (O.put sink.old)
+        ≡ ended result (H.files shelf.new) (I.left source.new) (O.put sink.new) }
+    ensures complete { IsFaultless (H.faults shelf.old) (H.faults shelf.new) (I.faults source.old) (I.faults source.new) (O.faults sink.old) (O.faults sink.new) →
+        WhereTold (H.files shelf.old) (I.left source.old) (O.put sink.old) (λ files input held. IsWithin (2 ^ 32 - 1) (2 ^ 40) words.now files input → (result ≡ 4) ⊎ (result ≡ 0)) }
+    ensures front { (result ≡ 1) ⊎ (result ≡ 4) → IsFront (O.put sink.new)
+        (told (2 ^ 32 - 1) (2 ^ 40) words.now (H.files shelf.old) (I.left source.old) (O.put sink.old)) }
+    ensures done { result ≡ 0 → (is_form words.now ≡ true) × IsSpent (I.left source.new) }
+    ensures causes { result ≡ 1 → Rose (O.faults sink.old) (O.faults sink.new)
+        ⊎ ((Rose (I.faults source.old) (I.faults source.new) × HasAnswered (H.files shelf.old) (I.left source.old) (I.left source.new) (O.put sink.old) (O.put sink.new))
+        ⊎ (Rose (H.faults shelf.old) (H.faults shelf.new) × (IsAtOpening (I.left source.old) (I.left source.new) (O.put sink.old) (O.put sink.new)
+        ⊎ IsAtPublication (2 ^ 32 - 1) (2 ^ 40) (H.files shelf.old) (I.left source.old) (O.put sink.old) (O.put sink.new)))) }
+    ensures words { result ≡ 2 → is_form words.now ≡ false }
+    ensures no_form { is_form words.now ≡ false → (result ≡ 2) ⊎ ((result ≡ 1) ⊎ (result ≡ 4)) }
+    ensures refused { result ≡ 3 → (is_form words.now ≡ true) × IfSome (H.files shelf.old) IsRefused }
+    ensures untouched { (is_form words.now ≡ false) ⊎ (result ≡ 3) → (I.left source.new ≡ I.left source.old) × (I.faults source.new ≡ I.faults source.old) }
+    ensures range { result ≤ 5 }
+{
+    run_within(rt, alloc, &Limits::most(), words, shelf, source, sink)
+}

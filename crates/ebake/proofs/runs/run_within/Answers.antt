@@ -1,8 +1,0 @@
-use Rattle.std.proofs.Common.{rules}
-use Rattle.ebake.proofs.ToldFacts.{WhereTold-done}
-use Rattle.ebake.proofs.runs.run_within.Goals as goal
-
-pub returns-in-Err-Limit-clause-complete : goal.returns-in-Err-Limit-clause-complete
-returns-in-Err-Limit-clause-complete g c faultless =
-    WhereTold-done c.args.limits.now.lines c.args.limits.now.bytes 5 c.args.words.now (g.H.Shelf.files c.args.shelf.now) (g.H.Shelf.files c.outcome.new.shelf) (g.I.Source.left c.args.source.now) (g.I.Source.left c.outcome.new.source)
-    (g.O.Sink.put c.args.sink.now) (g.O.Sink.put c.outcome.new.sink) (search rules)
