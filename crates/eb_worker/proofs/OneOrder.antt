@@ -12,9 +12,9 @@ use Rattle.std.proofs.lemmas.List.Sorted.{All-permutation, sorted_far, ranks_by}
 use mathlib.Core.Bool.{true≢false}
 use mathlib.Core.Option.{some, some-injective}
 use lib.ListN.{get_elem?}
-use Rattle.eb_claims.specs.Claiming.{total}
+use Rattle.eb_claims.specs.Claiming.{weighed}
 use Rattle.eb_worker.specs.Recording.{SortKey, key_cmp, IsNumbered, IsSortOf, lists_of}
-use Rattle.eb_worker.proofs.Sorting.{total-IsPermutation}
+use Rattle.eb_worker.proofs.Sorting.{weighed-IsPermutation}
 
 first_of_both : (a b : Bool) → (not a && not b) ≡ true → a ≡ false
 first_of_both false b both = refl
@@ -33,12 +33,12 @@ module _ {E : Type 0} (lt : E → E → Bool) (o : IsStrictWeakOrder lt) where
   abbrev tie : E → E → ℕ
   tie x y = cond (ties lt x y) 1 0
 
-  not_less_as : (x y z : E) (zs : List E) → lt z y ≡ false → (0 < total (tie x) zs → lt x y ≡ false) → (b : Bool) → ties lt x z ≡ b → 0 < cond b 1 0 + total (tie x) zs → lt x y ≡ false
+  not_less_as : (x y z : E) (zs : List E) → lt z y ≡ false → (0 < weighed (tie x) zs → lt x y ≡ false) → (b : Bool) → ties lt x z ≡ b → 0 < weighed (tie x) zs + cond b 1 0 → lt x y ≡ false
   not_less_as x y z zs here rest true is some_tie = o.chain x z y (first_of_both (lt x z) (lt z x) is) here
   not_less_as x y z zs here rest false is some_tie = rest (omega arith)
 
   -- what ties with one that isn't less than y isn't less than y
-  not_less : (x y : E) (zs : List E) → All (λ z. lt z y ≡ false) zs → 0 < total (tie x) zs → lt x y ≡ false
+  not_less : (x y : E) (zs : List E) → All (λ z. lt z y ≡ false) zs → 0 < weighed (tie x) zs → lt x y ≡ false
   not_less x y [] none_less some_tie = absurd (omega arith)
   not_less x y (z ∷ zs) none_less some_tie =
       not_less_as x y z zs (none_less 0 x (omega arith)) (λ more. not_less x y zs (All-tail (λ z. lt z y ≡ false) z zs none_less) more) (ties lt x z) refl some_tie
@@ -53,7 +53,7 @@ module _ {E : Type 0} (lt : E → E → Bool) (o : IsStrictWeakOrder lt) where
       subst (λ (n : ℕ). lt (get_or (x ∷ xs) n d) (get_or xs k d) ≡ false) next (up (suc k) d (omega arith) (omega arith))
 
   module _ (P : E → Type 0) (alike : (x y : E) → P x → P y → lt x y ≡ false → lt y x ≡ false → x ≡ y) where
-    pub in_one_order : (xs ys : List E) → All P xs → All P ys → IsSortedBy lt xs → IsSortedBy lt ys → ((f : E → ℕ) → total f xs ≡ total f ys) → xs ≡ ys
+    pub in_one_order : (xs ys : List E) → All P xs → All P ys → IsSortedBy lt xs → IsSortedBy lt ys → ((f : E → ℕ) → weighed f xs ≡ weighed f ys) → xs ≡ ys
     in_one_order [] [] of_xs of_ys xs_up ys_up same = refl
     in_one_order [] (y ∷ ys) of_xs of_ys xs_up ys_up same = let lengths = same (λ _. 1) in absurd (omega arith)
     in_one_order (x ∷ xs) [] of_xs of_ys xs_up ys_up same = let lengths = same (λ _. 1) in absurd (omega arith)
@@ -129,4 +129,4 @@ module _ {E : Type 0} (key : E → SortKey) (lists : ℕ → List E) where
       (All-permutation Stands _ ys b.same all)
       a.rises
       b.rises
-      (λ f. sym (total-IsPermutation f _ xs a.same) ∙ total-IsPermutation f _ ys b.same)
+      (λ f. sym (weighed-IsPermutation f _ xs a.same) ∙ weighed-IsPermutation f _ ys b.same)
