@@ -1,0 +1,8 @@
+use Rattle.std.proofs.Common.{◌≡◌, drop}
+use Rattle.std.specs.List.{fold}
+use Rattle.eb_rerun.specs.Again.{with_new}
+use Rattle.eb_rerun.proofs.again.put_new.Given as goal
+
+-- the runs that are left do the rest
+abbrev pub invariant-loop-id : goal.invariant-loop-id
+invariant-loop-id l = fold (with_new l.kept l.rules l.project) l.out (drop l.id-index l.ids) ≡ fold (with_new l.fn.kept l.fn.rules l.fn.project) l.fn.out l.fn.ids
