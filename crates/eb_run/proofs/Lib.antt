@@ -1,7 +1,3 @@
-pub mod LineFacts
-pub mod WholeFacts
-pub mod FrontFacts
-pub mod OutletFacts
-pub mod ReaderFacts
-pub mod ServeFacts
+pub mod CountFacts
+pub mod FaultFacts
 pub mod ToldFacts

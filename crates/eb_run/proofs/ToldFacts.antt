@@ -7,16 +7,20 @@ use Rattle.eb_outside.specs.Shelves.{Files}
 use Rattle.eb_outside.specs.Streams.{appended}
 use Rattle.eb_session.specs.Machine.{State}
 use Rattle.eb_session.specs.Opening.{opened}
-use Rattle.eb_run.specs.Lines.{pieces, all_lines, plan_where, plan_of, plan}
+use Rattle.eb_serve.specs.Lines.{pieces, all_lines, plan_where, plan_of, plan}
 use Rattle.eb_run.specs.Words.{is_form, usage_text}
-use Rattle.eb_run.specs.Told.{End, replay, session_end, opened_end, run_end, told, ended, WhereTold, IsWithin}
-use Rattle.eb_run.specs.Progress.{first_standing, whole, IsFront, Follows}
-use Rattle.eb_run.specs.Stops.{stop_of_outside}
-use Rattle.eb_run.specs.declared.stops.Stop.{Stop}
+use Rattle.eb_serve.specs.Machines.{End, ended}
+use Rattle.eb_serve.specs.Machines as machines
+use Rattle.eb_serve.specs.Progress.{first_standing, whole, IsFront, Serves}
+use Rattle.eb_serve.specs.Stops.{stop_of_outside}
+use Rattle.eb_serve.specs.declared.stops.Stop.{Stop}
+use Rattle.eb_serve.specs.declared.stops.Stop.TheVariants.{Outside, Memory, Limit}
+use Rattle.eb_run.specs.Answering.{answering}
+use Rattle.eb_run.specs.Told.{replay, opened_end, run_end, told, Follows, WhereTold, IsWithin}
 use Rattle.eb_outside.specs.declared.errors.OutsideError.{OutsideError}
 use Rattle.eb_outside.specs.declared.errors.OutsideError.TheVariants as outside
-use Rattle.eb_run.proofs.WholeFacts.{same_Some}
-use Rattle.eb_run.proofs.FrontFacts.{IsFront-same, IsFront-of, IsFront-ended, IsFrontOf-take}
+use Rattle.eb_serve.proofs.WholeFacts.{same_Some}
+use Rattle.eb_serve.proofs.FrontFacts.{IsFront-same, IsFront-of, IsFront-ended, IsFrontOf-take}
 
 pub told-no_form : (lines bytes : ℕ) (words : List (List ℕ)) (files : Option Files) (left held : Option (List ℕ)) → is_form words ≡ false → told lines bytes words files left held ≡ ended 2 files left (appended held usage_text)
 unfolding told
@@ -33,7 +37,7 @@ told-refused lines bytes words line (Some files) (Some left) None form refused =
 told-refused lines bytes words line (Some files) (Some left) (Some held) form refused =
     ap (λ b. Some (run_end b lines bytes files left held)) form ∙ ap (λ o. Some (opened_end lines bytes o files left held)) refused
 
-pub told-opened : (lines bytes : ℕ) (words : List (List ℕ)) (state : State) (files : Option Files) (left held : Option (List ℕ)) → is_form words ≡ true → IfSome files (λ f. opened f ≡ Ok state) → told lines bytes words files left held ≡ whole (first_standing lines bytes state) files left held
+pub told-opened : (lines bytes : ℕ) (words : List (List ℕ)) (state : State) (files : Option Files) (left held : Option (List ℕ)) → is_form words ≡ true → IfSome files (λ f. opened f ≡ Ok state) → told lines bytes words files left held ≡ whole answering (first_standing lines bytes state) files left held
 unfolding told
 told-opened lines bytes words state None left held form opens = refl
 told-opened lines bytes words state (Some files) None held form opens = refl
@@ -42,7 +46,7 @@ told-opened lines bytes words state (Some files) (Some left) (Some held) form op
     ap (λ b. Some (run_end b lines bytes files left held)) form ∙ ap (λ o. Some (opened_end lines bytes o files left held)) opens
 
 opened_front : (lines bytes : ℕ) (found : Result State (List ℕ)) (files : Files) (left held : List ℕ) → IsFront (Some held) (Some (opened_end lines bytes found files left held))
-unfolding session_end
+unfolding machines.session_end
 opened_front lines bytes (Err line) files left held = (held, line, refl, refl)
 opened_front lines bytes (Ok state) files left held = (held, (replay (plan lines bytes left).lines state files).reply, refl, refl)
 
@@ -88,7 +92,7 @@ status_of status end (Some files) (Some left) None e = absurd (cc e)
 status_of status end (Some files) (Some left) (Some held) e = ap (λ (e : End). e.status) (same_Some _ _ e)
 
 done_status : (lines bytes status : ℕ) (words : List (List ℕ)) (files : Files) (input held : List ℕ) (later : Option Files) (left now : Option (List ℕ)) → told lines bytes words (Some files) (Some input) (Some held) ≡ ended status later left now → IsWithin lines bytes words files input → status ≡ 0
-unfolding told session_end
+unfolding told machines.session_end
 done_status lines bytes status words files input held later left now same within =
     sym (status_of status (run_end (is_form words) lines bytes files input held) later left now same)
     ∙ ap (λ b. (run_end b lines bytes files input held).status) within.form
@@ -110,3 +114,16 @@ ok_same a b same = cc
 pub not_three : (form : Bool) (result : Result ℕ Stop) → form ≡ true → IfOk result (λ status. status ≡ 0) → (form ≡ false) ⊎ (result ≡ Ok 3) → ⊥
 not_three form (Err stop) good zero touched = elim touched [ inl formless ↦ cc | inr refused ↦ cc ]
 not_three form (Ok status) good zero touched = elim touched [ inl formless ↦ cc | inr refused ↦ (let same : status ≡ 3 = ok_same status 3 refused in omega arith) ]
+
+-- lines that were served end a run alike
+pub Follows-serves : (stop : Stop) (all : Option End) (files : Option Files) (left held : Option (List ℕ)) → Serves {T = Unit {0}} (Err stop) all files left held → Follows (Err stop) all files left held
+Follows-serves Outside all files left held serves = serves
+Follows-serves Memory all files left held serves = serves
+Follows-serves Limit all files left held serves = serves
+
+err_same : (a b : Stop) → ◌≡◌ {A = Result ℕ Stop} (Err a) (Err b) → a ≡ b
+err_same a b same = cc
+
+-- a status that wasn't reached for the outside is that of lines that weren't served for it
+pub stops_alike : (stop : Stop) → ◌≡◌ {A = Result ℕ Stop} (Err stop) (Err Outside) → ◌≡◌ {A = Result (Unit {0}) Stop} (Err stop) (Err Outside)
+stops_alike stop same = ap Err (err_same stop Outside same)

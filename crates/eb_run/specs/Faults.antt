@@ -5,7 +5,7 @@ use Rattle.eb_session.specs.Machine.{State}
 use Rattle.eb_session.specs.Opening.{opened}
 use Rattle.eb_session.specs.Requests.{request_of}
 use Rattle.eb_session.specs.declared.requests.Request.TheVariants.{Publish}
-use Rattle.eb_run.specs.Lines.{pieces, plan}
+use Rattle.eb_serve.specs.Lines.{pieces, plan}
 use Rattle.eb_run.specs.Told.{replay}
 
 -- The sink holds the replies to all whole lines among the bytes that were taken.

@@ -1,38 +1,25 @@
 -- The whole run of the program: its status, its output and the files that it leaves.
-use Rattle.std.specs.Prelude.{◌≡◌, ℕ, ◌≤◌, ◌++◌, Bool, true, false, Option, None, Some, Result, Ok, Err, List, [], ◌∷◌, length, ⊤}
+use Rattle.std.specs.Prelude.{◌≡◌, ℕ, ◌≤◌, ◌++◌, Bool, true, false, Option, None, Some, Result, Ok, Err, List, length, ⊤}
 use Rattle.eb_outside.specs.Causes.{Rose}
 use Rattle.eb_outside.specs.Shelves.{Files}
-use Rattle.eb_session.specs.Machine.{State, Step, step, answered}
+use Rattle.eb_serve.specs.Lines.{pieces, all_lines}
+use Rattle.eb_serve.specs.Machines.{Step, End, end_with, ended}
+use Rattle.eb_serve.specs.Machines as machines
+use Rattle.eb_serve.specs.Progress.{IsFront}
+use Rattle.eb_serve.specs.declared.stops.Stop.{Stop}
+use Rattle.eb_serve.specs.declared.stops.Stop.TheVariants.{Outside, Memory, Limit}
+use Rattle.eb_session.specs.Machine.{State}
 use Rattle.eb_session.specs.Opening.{opened}
+use Rattle.eb_run.specs.Answering.{answering}
 use Rattle.eb_run.specs.Words.{is_form, usage_text}
-use Rattle.eb_run.specs.Lines.{pieces, all_lines, Plan, plan}
 
--- a step with an earlier reply in front of its own
-abbrev pub behind : List ℕ → Step → Step
-behind reply later = step (reply ++ later.reply) later.state later.files
-
--- the machine's steps over the lines, one after the other, as one: the replies end to end, and state and files
--- after the last
-unfoldable pub replay : List (List ℕ) → State → Files → Step
-replay [] state files = step [] state files
-replay (line ∷ lines) state files =
-    behind (answered line state files).reply (replay lines (answered line state files).state (answered line state files).files)
-
--- how a run ends: its status, what the sink holds, and the files
-pub record End : Type 0 where
-  pub status : ℕ
-  pub output : List ℕ
-  pub files : Files
-
-abbrev pub end_with : ℕ → List ℕ → Files → End
-end_with status output files = record { status = status; output = output; files = files }
-
-abbrev pub planned : Plan → State → Files → List ℕ → End
-planned p state files output = end_with p.status (output ++ (replay p.lines state files).reply) (replay p.lines state files).files
+-- the session's machine over the lines, one after the other, as one step
+abbrev pub replay : List (List ℕ) → State → Files → Step State
+replay lines state files = machines.replay answering lines state files
 
 -- the lines of the input that are answered under the limits, from a state on, behind an output so far
-unfoldable pub session_end : ℕ → ℕ → State → Files → List ℕ → List ℕ → End
-session_end lines bytes state files input output = planned (plan lines bytes input) state files output
+abbrev pub session_end : ℕ → ℕ → State → Files → List ℕ → List ℕ → End
+session_end lines bytes state files input output = machines.session_end answering lines bytes state files input output
 
 abbrev pub opened_end : ℕ → ℕ → Result State (List ℕ) → Files → List ℕ → List ℕ → End
 opened_end lines bytes (Err line) files input output = end_with 3 (output ++ line) files
@@ -50,12 +37,12 @@ told lines bytes words (Some files) (Some input) None = None
 told lines bytes words (Some files) None output = None
 told lines bytes words None input output = None
 
--- the end with this status, where the three tell what there is then
-abbrev pub ended : ℕ → Option Files → Option (List ℕ) → Option (List ℕ) → Option End
-ended status (Some files) (Some left) (Some output) = Some (end_with status output files)
-ended status (Some files) (Some left) None = None
-ended status (Some files) None output = None
-ended status None left output = None
+-- The run ended with this status, or by a limit; after a fault or want of memory the sink holds a front of the output.
+abbrev pub Follows : Result ℕ Stop → Option End → Option Files → Option (List ℕ) → Option (List ℕ) → Type 0
+Follows (Ok status) all files left held = all ≡ ended status files left held
+Follows (Err Limit) all files left held = all ≡ ended 5 files left held
+Follows (Err Outside) all files left held = IsFront held all
+Follows (Err Memory) all files left held = IsFront held all
 
 -- a statement for the run of a shelf that tells its files, a source that tells its bytes and a sink that tells what it holds
 abbrev pub WhereTold : Option Files → Option (List ℕ) → Option (List ℕ) → (Files → List ℕ → List ℕ → Type 0) → Type 0

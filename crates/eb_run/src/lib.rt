@@ -2,13 +2,9 @@
 //! `specs/Told.antt`.
 #![tactic(auto)]
 
-pub mod limits;
-pub mod outlet;
-pub mod readers;
+pub mod responding;
 pub mod runs;
-pub mod serving;
-pub mod stops;
 pub mod words;
 
-pub use limits::Limits;
+pub use eb_serve::Limits;
 pub use runs::{run, run_within};

@@ -1,19 +1,20 @@
 // The whole run: words, opening, lines, status.
-ghost use Rattle.std.specs.Prelude.{◌≡◌, ◌≢◌, ◌<◌, ◌≤◌, ◌-◌, ◌^◌, ◌⊎◌, ℕ, Bool, true, false, None, Ok, IfOk, IfSome, IsErrOf, ◌↔◌};
+ghost use Rattle.std.specs.Prelude.{◌≡◌, ◌≢◌, ◌<◌, ◌≤◌, ◌-◌, ◌^◌, ◌⊎◌, ℕ, Bool, true, false, None, Ok, IfOk, IfSome, OnOk, IsErrOf, ◌↔◌};
 ghost use Rattle.eb_outside.specs.Causes.{Rose};
 ghost use Rattle.eb_run.specs.Words.{is_form};
 ghost use Rattle.eb_session.specs.Opening.{opened, OpensAs};
-ghost use Rattle.eb_run.specs.Told.{told, ended, IsFaultless, IsRefused, IsWithin, WhereTold};
-ghost use Rattle.eb_run.specs.Progress.{IsFront, Follows, IsSpent};
+ghost use Rattle.eb_serve.specs.Machines.{ended};
+ghost use Rattle.eb_serve.specs.Progress.{first_standing, whole, IsFront, IsSpent};
+ghost use Rattle.eb_run.specs.Answering.{answering};
+ghost use Rattle.eb_run.specs.Told.{told, Follows, IsFaultless, IsRefused, IsWithin, WhereTold};
 ghost use Rattle.eb_run.specs.Faults.{HasAnswered, IsAtOpening, IsAtPublication};
 
-use crate::limits::Limits;
-use crate::outlet::give_all;
-use crate::serving::answer_lines;
-use crate::stops::Stop;
+use crate::responding::Answering;
 use crate::words::{is_session, usage};
 use eb_base::{Steps, Text};
 use eb_outside::{Shelf, Sink, Source};
+use eb_serve::outlet::give_all;
+use eb_serve::{Limits, Stop, serve};
 use eb_session::{OpenEnd, Session};
 use std::alloc::Global;
 use std::marker::Brand;
@@ -39,6 +40,37 @@ fn open_session<H: Shelf, L: Ledger>(
     let mut steps: Steps<L> = Steps::open(blank);
     let session = Session::open(alloc, shelf, &mut steps)?;
     Ok(session)
+}
+
+/// Answers the lines of the source in a session that has just been opened, and answers the status.
+fn answer_lines<H: Shelf, I: Source, O: Sink>(
+    alloc: Global,
+    limits: &Limits,
+    session: Session,
+    shelf: &mut H,
+    source: &mut I,
+    sink: &mut O,
+) -> Result<u8, Stop>
+    requires generation { session.generation ≡ 0 }
+    requires made { session.made ≡ 0 }
+    requires opens { IfSome (H.files shelf.old) (λ files. opened files ≡ Ok session) }
+    ensures told { Follows result
+        (whole answering (first_standing limits.now.lines limits.now.bytes session) (H.files shelf.old) (I.left source.old) (O.put sink.old))
+        (H.files shelf.new) (I.left source.new) (O.put sink.new) }
+    ensures status { IfOk result (λ status. status ≡ 0) }
+    ensures spent { OnOk result (IsSpent (I.left source.new)) }
+    ensures causes { IsErrOf result Stop.Outside → Rose (O.faults sink.old) (O.faults sink.new)
+        ⊎ ((Rose (I.faults source.old) (I.faults source.new) × HasAnswered (H.files shelf.old) (I.left source.old) (I.left source.new) (O.put sink.old) (O.put sink.new))
+        ⊎ (Rose (H.faults shelf.old) (H.faults shelf.new) × IsAtPublication limits.now.lines limits.now.bytes (H.files shelf.old) (I.left source.old) (O.put sink.old) (O.put sink.new))) }
+    ensures shelf { H.faults shelf.old ≤ H.faults shelf.new }
+    ensures source { I.faults source.old ≤ I.faults source.new }
+    ensures sink { O.faults sink.old ≤ O.faults sink.new }
+{
+    let mut answering = Answering::of(session);
+    let served = serve(alloc, limits, &mut answering, shelf, source, sink);
+    answering.close();
+    served?;
+    Ok(0)
 }
 
 /// The status of the words' run, or why it stopped.

@@ -224,6 +224,10 @@ impl Session {
         })
     }
 
+    /// Lets the session go, with all that it holds. A run that is through ends with this, so that what a session is made
+    /// of is known here alone.
+    pub fn close(self) {}
+
     /// Publishes the project as it stands.
     #[tactic(auto, unfolding(crate::specs::Machine::published))]
     fn publish<H: Shelf>(&mut self, shelf: &mut H) -> Result<Reply, SessionEnd>

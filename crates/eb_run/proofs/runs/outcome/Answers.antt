@@ -1,9 +1,11 @@
 use Rattle.std.proofs.Common.{◌≡◌, ap, sym, ◌∙◌, true, false, arith}
 use Rattle.std.proofs.lemmas.Result.{err_from_is_err_and}
 use Rattle.eb_outside.specs.Streams.{appended}
-use Rattle.eb_run.specs.Told.{told, ended}
+use Rattle.eb_serve.specs.Machines.{ended}
+use Rattle.eb_serve.specs.Progress.{first_standing, whole}
+use Rattle.eb_run.specs.Answering.{answering}
+use Rattle.eb_run.specs.Told.{told}
 use Rattle.eb_run.specs.Words.{is_form}
-use Rattle.eb_run.specs.Progress.{first_standing, whole}
 use Rattle.eb_run.proofs.ToldFacts.{not_three, told-no_form, told-refused, told-opened, IsFront-told, Follows-given, Follows-same}
 use Rattle.eb_run.proofs.runs.outcome.Goals as goal
 
@@ -50,8 +52,8 @@ returns-in-Ok-clause-told g c =
     let lines = c.args.limits.now.lines in
     let bytes = c.args.limits.now.bytes in
     let form : is_form c.args.words.now ≡ true = grind arith in
-    let same = told-opened lines bytes c.args.words.now c.in-Ok.session files left base form c.in-Ok.ensures.opened ∙ ap (λ f. whole (first_standing lines bytes c.in-Ok.session) f left base) (sym c.in-Ok.ensures.files) in
-    Follows-same c.answer_lines.result (told lines bytes c.args.words.now files left base) (whole (first_standing lines bytes c.in-Ok.session) (g.H.Shelf.files c.open_session.new.shelf) left base)
+    let same = told-opened lines bytes c.args.words.now c.in-Ok.session files left base form c.in-Ok.ensures.opened ∙ ap (λ f. whole answering (first_standing lines bytes c.in-Ok.session) f left base) (sym c.in-Ok.ensures.files) in
+    Follows-same c.answer_lines.result (told lines bytes c.args.words.now files left base) (whole answering (first_standing lines bytes c.in-Ok.session) (g.H.Shelf.files c.open_session.new.shelf) left base)
     (g.H.Shelf.files c.answer_lines.new.shelf) (g.I.Source.left c.answer_lines.new.source) (g.O.Sink.put c.answer_lines.new.sink) same c.answer_lines.ensures.told
 
 pub returns-in_ok-give_all-in-Err-Refused-clause-told : goal.returns-in_ok-give_all-in-Err-Refused-clause-told

@@ -1,5 +1,0 @@
--- the counter of a line is its own
-use Rattle.eb_run.proofs.readers.Reader.end_line.Given as goal
-
-abbrev pub ghosts-answer : goal.ghosts-answer
-ghosts-answer g a = record { name = a.blank.name; parts = a.blank.parts }
