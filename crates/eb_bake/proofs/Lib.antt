@@ -1,5 +1,4 @@
 -- What the proofs of this crate share.
 pub mod RunFacts
-pub mod KeptFacts
-pub mod CountFacts
-pub mod KeyFacts
+pub mod KeptSchema
+pub mod Rebakings

@@ -1,5 +1,5 @@
 -- What rules make of a project, and what an edit makes anew.
-use Rattle.std.specs.Prelude.{◌≡◌, ℕ, Bool, true, false, List, ◌++◌, length, filter, fold, Result, Ok, Err, refl}
+use Rattle.std.specs.Prelude.{◌≡◌, ⊤, ℕ, ◌+◌, Bool, true, false, List, ◌++◌, length, map, fold, Result, Ok, Err, refl}
 use Rattle.std.specs.Coded.{Coded, code_by, coded×, coded_bool}
 use Rattle.std.specs.Option.{unwrap_or}
 use Rattle.eb_base.specs.declared.names.Place.{Place}
@@ -11,39 +11,37 @@ use Rattle.eb_scene.specs.Projects.{Content, section_in}
 use Rattle.eb_scene.specs.contracts.projects.Project as project
 use Rattle.eb_rules.specs.Kept.{Kept, coded_kept}
 use Rattle.eb_eval.specs.Entities.{own_entity}
-use Rattle.eb_eval.specs.Reruns.{is_rerun}
-use Rattle.eb_eval.specs.Runs.{runs_of}
-use Rattle.eb_eval.specs.declared.ids.RunId.{RunId}
+use Rattle.eb_eval.specs.Runs.{object_runs, runs_of}
 use Rattle.eb_eval.specs.declared.issues.Issue.{Issue}
-use Rattle.eb_merge.specs.Objects.{with_object, nothing_merged}
+use Rattle.eb_merge.specs.Objects.{IdRun, with_object, nothing_merged}
 use Rattle.eb_merge.specs.Objects as merging
 use Rattle.eb_merge.specs.declared.merging.Merged.{Merged}
+use Rattle.eb_rerun.specs.Recorded.{objects_in, ran_of, recorded, rerun}
 use Rattle.eb_system.specs.Staged.{Stage}
 use Rattle.eb_system.specs.Stages.{staged}
 use Rattle.eb_bake.specs.Changed.{changed_names}
-use Rattle.eb_bake.specs.Gathered.{gathered, by_name}
 use Rattle.eb_bake.specs.declared.renewing.Bake.{Bake}
 use Rattle.eb_bake.specs.declared.bakers.BakerFault.{BakerFault}
 use Rattle.eb_bake.specs.declared.bakers.BakerFault.TheVariants as fault
 use Rattle.eb_bake.specs.declared.renewing.Rebaked.{Rebaked}
-use Rattle.eb_bake.specs.declared.gathering.ObjectRuns.{ObjectRuns}
 
 -- ---- baking from nothing
 
 -- the section that the entities of an object lie in
-abbrev pub place_of : Content → ℕ → ℕ → Place
-place_of g s n = record { scene = s; section = unwrap_or (section_in g s n) 0 }
+abbrev pub place_of : Content → ℕ × ℕ → Place
+place_of g o = record { scene = o.0; section = unwrap_or (section_in g o.0 o.1) 0 }
+
+-- the runs of an object, ascending by baker, and what came of each
+abbrev pub runs_at : Kept → Content → ℕ × ℕ → List IdRun
+runs_at rules g o = map (λ id. (id, ran_of rules g id)) (object_runs rules g o.0 o.1)
 
 -- what was merged, with one more object
-unfoldable pub with_runs_of : Content → Merged → ObjectRuns → Merged
-with_runs_of g m x = with_object m (own_entity x.scene x.object) (place_of g x.scene x.object) x.runs
+unfoldable pub with_object_of : Kept → Content → Merged → ℕ × ℕ → Merged
+with_object_of rules g m o = with_object m (own_entity o.0 o.1) (place_of g o) (runs_at rules g o)
 
-abbrev pub merged_all : Content → List ObjectRuns → Merged
-merged_all g xs = fold (with_runs_of g) nothing_merged xs
-
--- what the runs of a project give together
+-- what the runs of a project give together, object by object
 abbrev pub merged_of : Kept → Content → Merged
-merged_of rules g = merged_all g (gathered rules g)
+merged_of rules g = fold (with_object_of rules g) nothing_merged (objects_in g)
 
 -- the entities after all systems, and what the systems left out
 unfoldable pub staged_of : Kept → Content → Stage
@@ -70,15 +68,11 @@ bakery rules project = record { rules = rules; project = project; spent = false 
 
 -- what a baker keeps beside its project
 pub record IsBake (rules : Kept) (g : Content) (bake : Bake) : Type 0 where
-  pub runs : bake.runs ≡ by_name (gathered rules g)
+  pub runs : bake.runs ≡ recorded rules g
   pub stages : bake.stages ≡ staged_of rules g
   pub issues : bake.issues ≡ issues_of rules g
 
 -- ---- an edit
-
--- the runs of h that an edit makes anew: those that g hasn't, and those whose reads in g are touched
-unfoldable pub rerun : Kept → Content → Edit → Content → List RunId
-rerun rules g e h = filter (is_rerun g rules e) (runs_of rules h)
 
 pub record IsRebaked (done : Rebaked) (g h : Bakery) (e : Edit) : Type 0 where
   pub project : edited g.project e ≡ Ok h.project
@@ -102,3 +96,9 @@ Rebakes (Ok done) g h e = IsRebaked done g h e
 Rebakes (Err fault.Memory) g h e = h.spent ≡ true
 Rebakes (Err (fault.Edit edit_fault.Memory)) g h e = ⊥
 Rebakes (Err (fault.Edit refusal)) g h e = (h ≡ g) × (edited g.project e ≡ Err refusal)
+
+-- the runs that were evaluated are counted; a refusal evaluates none
+abbrev pub Counts : Result Rebaked BakerFault → ℕ → ℕ → Type 0
+Counts (Ok done) before after = after ≡ before + done.rerun
+Counts (Err fault.Memory) before after = ⊤
+Counts (Err (fault.Edit refusal)) before after = after ≡ before

@@ -1,12 +1,14 @@
 // A project with its rules, and what they make of it.
-ghost use Rattle.std.specs.Prelude.{◌≡◌, IfOk, false, length};
+ghost use Rattle.std.specs.Prelude.{◌≡◌, ◌+◌, IfOk, OnOk, false, length};
 ghost use Rattle.eb_scene.specs.Validity.{IsEdit};
-ghost use Rattle.eb_bake.specs.Baking.{bakery, fault_of, is_memory, staged_of, issues_of, Rebakes};
+ghost use Rattle.eb_eval.specs.Runs.{runs_of};
+ghost use Rattle.eb_bake.specs.Baking.{Counts, bakery, fault_of, is_memory, staged_of, issues_of, Rebakes};
 ghost use Rattle.eb_bake.specs.IssueTexts.{issue_lines};
 
 use crate::issue_texts::issue_lines;
 use crate::renewing::{Bake, Rebaked, fresh, renew};
 use eb_base::{Memory, Steps, Text};
+use eb_rerun::{renewals_are_exact, scene_gone};
 use eb_rules::Rules;
 use eb_scene::{Edit, EditFault, Project};
 use eb_schema::Baked;
@@ -75,7 +77,8 @@ impl Baker {
         steps: &mut Steps<L>,
     ) -> Result<Self, Memory>
         requires { rules.schema ≡ project.schema }
-        ensures { IfOk result (λ b. b ≡ bakery rules project) }
+        ensures baker { IfOk result (λ b. b ≡ bakery rules project) }
+        ensures steps { OnOk result (steps.new ≡ steps.old + length (runs_of rules project)) }
     {
         let bake = fresh(alloc, &rules, &project, steps)?;
         Ok(Baker {
@@ -88,8 +91,8 @@ impl Baker {
     }
 
     /// Does an edit, and tells what it made anew; or the first rule that it breaks, and then nothing changes. Where there
-    /// is no memory, the baker is spent. Each run of the new project is evaluated once. `docs/baking.md`, "Edits".
-    #[tactic(auto, using(crate::proofs::CountFacts::told_anew))]
+    /// is no memory, the baker is spent. Each run that the edit made anew is evaluated once, and no other. `docs/baking.md`,
+    /// "Edits".
     pub fn edit<L: Ledger>(
         &mut self,
         edit: &Edit,
@@ -98,9 +101,16 @@ impl Baker {
         requires fits { IsEdit edit.now }
         requires live { self.old.spent ≡ false }
         ensures rebaked { Rebakes result self.old self.new edit.now }
+        ensures steps { Counts result steps.old steps.new }
         ensures rules { self.new.rules ≡ self.old.rules }
         ensures schema { self.new.project.schema ≡ self.old.project.schema }
     {
+        renewals_are_exact();
+        self.project.schema();
+        let Ok(gone) = scene_gone(self.alloc, &self.project, edit) else {
+            self.spent = true;
+            return Err(BakerFault::Memory);
+        };
         match self.project.edit(edit) {
             Ok(touched) => {
                 let Baker {
@@ -109,7 +119,8 @@ impl Baker {
                     bake,
                     ..
                 } = self;
-                match renew(bake, self.alloc, rules, project, touched, steps) {
+                project.schema();
+                match renew(bake, self.alloc, rules, project, gone.items(), touched.as_slice(), steps) {
                     Ok(done) => Ok(done),
                     Err(Memory) => {
                         self.spent = true;

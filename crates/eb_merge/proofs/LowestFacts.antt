@@ -9,9 +9,8 @@ use Rattle.eb_schema.specs.Rows.{cell_of}
 use Rattle.eb_schema.proofs.RowLaws.{found_with}
 use Rattle.eb_eval.specs.declared.outcomes.Output.{Output}
 use Rattle.eb_merge.specs.declared.own_cells.Standing.{Standing}
-use Rattle.eb_merge.specs.declared.runs.BakerRun.{BakerRun}
 use Rattle.eb_merge.specs.Standing.{kind_of, standing_at, given, with_gift}
-use Rattle.eb_merge.specs.Objects.{outputs_of, is_own, own_after_output, own_after_run, own_standing, own_cells, given_cells}
+use Rattle.eb_merge.specs.Objects.{IdRun, outputs_of, is_own, own_after_output, own_after_run, own_standing, own_cells, given_cells}
 use Rattle.eb_merge.proofs.GiftFacts.{kind_found}
 
 abbrev pub cell_at : List Standing → ℕ → Option Cell
@@ -74,14 +73,14 @@ after_outputs baker k xs (o ∷ os) =
     ∙ or_or (cell_at xs k) (cell_of (own_cells o) k) (cell_of (flat_map own_cells os) k)
     ∙ ap (option_or (cell_at xs k)) (sym (find-append (λ c. nat_eq c.kind k) (own_cells o) (flat_map own_cells os)))
 
-after_runs : (k : ℕ) (xs : List Standing) (rs : List BakerRun) → cell_at (fold own_after_run xs rs) k ≡ option_or (cell_at xs k) (cell_of (given_cells rs) k)
+after_runs : (k : ℕ) (xs : List Standing) (rs : List IdRun) → cell_at (fold own_after_run xs rs) k ≡ option_or (cell_at xs k) (cell_of (given_cells rs) k)
 after_runs k xs [] = sym (or_none (cell_at xs k))
 after_runs k xs (r ∷ rs) =
-    let here = flat_map own_cells (outputs_of r.run.outcome) in
+    let here = flat_map own_cells (outputs_of r.1.outcome) in
     after_runs k (own_after_run xs r) rs
-    ∙ ap (λ c. option_or c (cell_of (given_cells rs) k)) (after_outputs r.baker k xs (outputs_of r.run.outcome))
+    ∙ ap (λ c. option_or c (cell_of (given_cells rs) k)) (after_outputs r.0.baker k xs (outputs_of r.1.outcome))
     ∙ or_or (cell_at xs k) (cell_of here k) (cell_of (given_cells rs) k)
     ∙ ap (option_or (cell_at xs k)) (sym (find-append (λ c. nat_eq c.kind k) here (given_cells rs)))
 
-pub lowest : (runs : List BakerRun) (kind : ℕ) → cell_at (own_standing runs) kind ≡ cell_of (given_cells runs) kind
+pub lowest : (runs : List IdRun) (kind : ℕ) → cell_at (own_standing runs) kind ≡ cell_of (given_cells runs) kind
 lowest runs kind = after_runs kind [] runs

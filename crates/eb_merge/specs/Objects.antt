@@ -12,10 +12,14 @@ use Rattle.eb_eval.specs.declared.issues.Issue.TheVariants as issue
 use Rattle.eb_eval.specs.declared.outcomes.Outcome.{Outcome}
 use Rattle.eb_eval.specs.declared.outcomes.Outcome.TheVariants as outcome
 use Rattle.eb_eval.specs.declared.outcomes.Output.{Output}
+use Rattle.eb_eval.specs.Ran.{Ran}
 use Rattle.eb_merge.specs.declared.merging.Merged.{Merged}
-use Rattle.eb_merge.specs.declared.runs.BakerRun.{BakerRun}
 use Rattle.eb_merge.specs.declared.own_cells.Standing.{Standing}
 use Rattle.eb_merge.specs.Standing.{with_gift, row_of, duplicates_of, too_many_of}
+
+-- a run and what came of it
+abbrev pub IdRun : Type 0
+IdRun = RunId × Ran
 
 -- what a run gives: nothing where it has a fault
 abbrev pub outputs_of : Outcome → List Output
@@ -31,59 +35,59 @@ is_own x = x.name.extra == 0
 abbrev pub own_after_output : ℕ → List Standing → Output → List Standing
 own_after_output baker xs x = cond (is_own x) (fold (with_gift baker) xs x.row) xs
 
-abbrev pub own_after_run : List Standing → BakerRun → List Standing
-own_after_run xs r = fold (own_after_output r.baker) xs (outputs_of r.run.outcome)
+abbrev pub own_after_run : List Standing → IdRun → List Standing
+own_after_run xs r = fold (own_after_output r.0.baker) xs (outputs_of r.1.outcome)
 
 -- the components that stand on the object's own entity
-abbrev pub own_standing : List BakerRun → List Standing
+abbrev pub own_standing : List IdRun → List Standing
 own_standing runs = fold own_after_run [] runs
 
 -- all components that the object's own entity is given, in the order of the runs
 abbrev pub own_cells : Output → List Cell
 own_cells x = cond (is_own x) x.row []
 
-abbrev pub given_cells : List BakerRun → List Cell
-given_cells runs = flat_map (λ r. flat_map own_cells (outputs_of r.run.outcome)) runs
+abbrev pub given_cells : List IdRun → List Cell
+given_cells runs = flat_map (λ r. flat_map own_cells (outputs_of r.1.outcome)) runs
 
--- ---- the entities
+-- ---- extras and faults
 
 abbrev pub with_extra : Place → Entities → Output → Entities
 with_extra place all x = cond (is_own x) all (insert all x.name (baked_entity place x.row))
 
-abbrev pub with_extras : Place → Entities → BakerRun → Entities
-with_extras place all r = fold (with_extra place) all (outputs_of r.run.outcome)
+abbrev pub with_extras : Place → Entities → Ran → Entities
+with_extras place all r = fold (with_extra place) all (outputs_of r.outcome)
 
--- the own entity, whose row may be empty
-abbrev pub with_own : Name → Place → Entities → List BakerRun → Entities
-with_own own place all runs = insert all own (baked_entity place (row_of (own_standing runs)))
+abbrev pub fault_in : RunId → Outcome → List Issue
+fault_in id (outcome.Made outputs) = []
+fault_in id (outcome.Fault e) = issue.Fault id e ∷ []
 
--- all entities of an object, in the section of its place
-abbrev pub with_entities : Name → Place → Entities → List BakerRun → Entities
-with_entities own place all runs = fold (with_extras place) (with_own own place all runs) runs
-
--- ---- the faults
-
-abbrev pub run_id : Name → Place → ℕ → RunId
-run_id own place baker = record { scene = place.scene; object = own.object; baker = baker }
-
-abbrev pub fault_of : RunId → Outcome → List Issue
-fault_of id (outcome.Made outputs) = []
-fault_of id (outcome.Fault e) = issue.Fault id e ∷ []
-
--- each run that has a fault
-abbrev pub faults_of : Name → Place → List BakerRun → List Issue
-faults_of own place runs = flat_map (λ r. fault_of (run_id own place r.baker) r.run.outcome) runs
+-- the fault of a run, if it has one
+abbrev pub fault_of : IdRun → List Issue
+fault_of r = fault_in r.0 r.1.outcome
 
 -- ---- objects behind others
 
--- what was merged, with one more object: its own entity and its place
-abbrev pub with_object : Merged → Name → Place → List BakerRun → Merged
-with_object m own place runs = record {
-  entities = with_entities own place m.entities runs;
-  faults = m.faults ++ faults_of own place runs;
-  duplicates = m.duplicates ++ duplicates_of own (own_standing runs);
-  too_many = m.too_many ++ too_many_of own (own_standing runs);
+-- what was merged, with an own entity, whose row may be empty
+abbrev pub with_own : Merged → Name → Place → List Standing → Merged
+with_own m own place xs = record {
+  entities = insert m.entities own (baked_entity place (row_of xs));
+  faults = m.faults;
+  duplicates = m.duplicates ++ duplicates_of own xs;
+  too_many = m.too_many ++ too_many_of own xs;
 }
+
+-- with the extras of a run and its fault
+abbrev pub with_run : Place → Merged → IdRun → Merged
+with_run place m r = record {
+  entities = with_extras place m.entities r.1;
+  faults = m.faults ++ fault_of r;
+  duplicates = m.duplicates;
+  too_many = m.too_many;
+}
+
+-- with one more object: its own entity and its place, and its runs
+abbrev pub with_object : Merged → Name → Place → List IdRun → Merged
+with_object m own place runs = fold (with_run place) (with_own m own place (own_standing runs)) runs
 
 -- no object
 abbrev pub nothing_merged : Merged

@@ -3,11 +3,10 @@
 
 pub mod laws;
 pub mod merging;
-mod objects;
+pub mod objects;
 pub mod own_cells;
-pub mod runs;
 
 pub use laws::the_lowest_stands;
 pub use merging::Merged;
+pub use objects::give_run;
 pub use own_cells::{OwnCells, Standing};
-pub use runs::BakerRun;

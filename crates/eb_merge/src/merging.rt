@@ -1,11 +1,11 @@
 // Objects brought together, one after the other.
 ghost use Rattle.std.specs.Prelude.{◌≡◌, OnOk, IfOk};
-ghost use Rattle.eb_merge.specs.Objects.{issues_of, nothing_merged, with_object};
+ghost use Rattle.eb_merge.specs.Objects.{issues_of, nothing_merged, with_own, with_run};
 
-use crate::objects::{own_cells, put_extras, put_faults};
-use crate::runs::BakerRun;
+use crate::objects::{put_extras, put_fault};
+use crate::own_cells::OwnCells;
 use eb_base::{Items, Memory, Name, Place};
-use eb_eval::Issue;
+use eb_eval::{Issue, Run, RunId};
 use eb_schema::Baked;
 use std::alloc::Global;
 
@@ -35,24 +35,36 @@ impl Merged {
         }
     }
 
-    /// Puts the entities of an object, whose own entity has this name, into the section of this place, and lists what
-    /// its runs left out. The runs are ascending by baker.
-    pub fn add(
+    /// Puts an object's own entity of this name, on which these components stand, into the section of this place, and
+    /// lists what of them was left out.
+    pub fn add_own(
         &mut self,
         alloc: Global,
         own: Name,
         place: Place,
-        runs: &[BakerRun],
+        cells: OwnCells,
     ) -> Result<(), Memory>
-        ensures { OnOk result (self.new ≡ with_object self.old own place runs.now) }
+        ensures { OnOk result (self.new ≡ with_own self.old own place cells) }
     {
-        put_faults(&mut self.faults, own, place, runs)?;
-        let cells = own_cells(alloc, runs)?;
         cells.put_duplicates(&mut self.duplicates, own)?;
         cells.put_too_many(&mut self.too_many, own)?;
         let row = cells.into_row(alloc)?;
         self.entities.put(own, place, row)?;
-        put_extras(&mut self.entities, alloc, place, runs)?;
+        Ok(())
+    }
+
+    /// Puts the extra entities of a run into the section of this place, and lists its fault.
+    pub fn add_run(
+        &mut self,
+        alloc: Global,
+        place: Place,
+        id: RunId,
+        run: &Run,
+    ) -> Result<(), Memory>
+        ensures { OnOk result (self.new ≡ with_run place self.old (id, run.now)) }
+    {
+        put_fault(&mut self.faults, id, run)?;
+        put_extras(&mut self.entities, alloc, place, run)?;
         Ok(())
     }
 

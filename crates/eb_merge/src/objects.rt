@@ -1,25 +1,22 @@
-// The runs of one object, ascending by baker: what they give to its own entity, its extras, and their faults.
-ghost use Rattle.std.specs.Prelude.{◌≡◌, ◌++◌, IfOk, OnOk, fold};
-ghost use Rattle.eb_merge.specs.Objects.{faults_of, fault_of, outputs_of, own_after_output, own_after_run, own_standing, with_extra, with_extras};
+// What one run gives: to its object's own entity, as extras, and its fault.
+ghost use Rattle.std.specs.Prelude.{◌≡◌, ◌++◌, OnOk};
+ghost use Rattle.eb_merge.specs.Objects.{fault_of, outputs_of, own_after_output, own_after_run, with_extra, with_extras};
 
 use crate::own_cells::OwnCells;
-use crate::runs::BakerRun;
-use eb_base::{Items, Memory, Name, Place};
-use eb_eval::{Issue, Outcome, Output, RunId};
+use eb_base::{Items, Memory, Place};
+use eb_eval::{Issue, Outcome, Output, Run, RunId};
 use eb_schema::Baked;
 use std::alloc::Global;
 
 /// What a run gives: nothing where it has a fault. Takes no memory.
-fn outputs_of(run: &BakerRun) -> &[Output]
-    ensures { result.now ≡ outputs_of run.now.run.outcome }
+fn outputs_of(run: &Run) -> &[Output]
+    ensures { result.now ≡ outputs_of run.now.outcome }
 {
-    match run.run.outcome() {
+    match run.outcome() {
         Outcome::Made(outputs) => outputs.items(),
         Outcome::Fault(_) => &[],
     }
 }
-
-// ---- the own entity
 
 /// What an output gives the object's own entity.
 fn give_output(own: &mut OwnCells, alloc: Global, baker: u8, output: &Output) -> Result<(), Memory>
@@ -31,28 +28,15 @@ fn give_output(own: &mut OwnCells, alloc: Global, baker: u8, output: &Output) ->
     Ok(())
 }
 
-/// What a run gives the object's own entity.
-fn give_run(own: &mut OwnCells, alloc: Global, run: &BakerRun) -> Result<(), Memory>
-    ensures { OnOk result (own.new ≡ own_after_run own.old run.now) }
+/// What a run, of a higher baker than those before, gives its object's own entity.
+pub fn give_run(own: &mut OwnCells, alloc: Global, id: RunId, run: &Run) -> Result<(), Memory>
+    ensures { OnOk result (own.new ≡ own_after_run own.old (id, run.now)) }
 {
     for output in outputs_of(run) {
-        give_output(own, alloc, run.baker, output)?;
+        give_output(own, alloc, id.baker, output)?;
     }
     Ok(())
 }
-
-/// What stands on the object's own entity.
-pub fn own_cells(alloc: Global, runs: &[BakerRun]) -> Result<OwnCells, Memory>
-    ensures { IfOk result (λ own. own ≡ own_standing runs.now) }
-{
-    let mut own = OwnCells::open(alloc);
-    for run in runs {
-        give_run(&mut own, alloc, run)?;
-    }
-    Ok(own)
-}
-
-// ---- extras
 
 /// Puts an extra entity.
 fn put_extra(
@@ -71,11 +55,11 @@ fn put_extra(
 }
 
 /// Puts the extra entities of a run.
-fn put_extras_of(
+pub fn put_extras(
     entities: &mut Baked,
     alloc: Global,
     place: Place,
-    run: &BakerRun,
+    run: &Run,
 ) -> Result<(), Memory>
     ensures { OnOk result (entities.new ≡ with_extras place entities.old run.now) }
 {
@@ -85,28 +69,11 @@ fn put_extras_of(
     Ok(())
 }
 
-/// Puts the extra entities of the object.
-pub fn put_extras(
-    entities: &mut Baked,
-    alloc: Global,
-    place: Place,
-    runs: &[BakerRun],
-) -> Result<(), Memory>
-    ensures { OnOk result (entities.new ≡ fold (with_extras place) entities.old runs.now) }
-{
-    for run in runs {
-        put_extras_of(entities, alloc, place, run)?;
-    }
-    Ok(())
-}
-
-// ---- faults
-
 /// Lists the fault of a run, if it has one.
-fn put_fault(out: &mut Items<Issue>, id: RunId, outcome: &Outcome) -> Result<(), Memory>
-    ensures { OnOk result (out.new ≡ out.old ++ fault_of id outcome.now) }
+pub fn put_fault(out: &mut Items<Issue>, id: RunId, run: &Run) -> Result<(), Memory>
+    ensures { OnOk result (out.new ≡ out.old ++ fault_of (id, run.now)) }
 {
-    match outcome {
+    match run.outcome() {
         Outcome::Made(_) => Ok(()),
         Outcome::Fault(fault) => {
             let fault = *fault;
@@ -114,24 +81,4 @@ fn put_fault(out: &mut Items<Issue>, id: RunId, outcome: &Outcome) -> Result<(),
             Ok(())
         }
     }
-}
-
-/// Lists the faults of the object's runs.
-pub fn put_faults(
-    out: &mut Items<Issue>,
-    own: Name,
-    place: Place,
-    runs: &[BakerRun],
-) -> Result<(), Memory>
-    ensures { OnOk result (out.new ≡ out.old ++ faults_of own place runs.now) }
-{
-    for run in runs {
-        let id = RunId {
-            scene: place.scene,
-            object: own.object,
-            baker: run.baker,
-        };
-        put_fault(out, id, run.run.outcome())?;
-    }
-    Ok(())
 }

@@ -1,7 +1,7 @@
 // The runs of a project, and their evaluation.
 ghost use Rattle.std.specs.Prelude.{◌≡◌, ◌+◌, ◌++◌, IfOk, OnOk, fold, length};
 ghost use Rattle.eb_eval.specs.Runs as runs;
-ghost use Rattle.eb_rerun.specs.Recorded.{with_run};
+ghost use Rattle.eb_rerun.specs.Recorded.{recorded, with_run};
 
 use eb_base::{Items, Memory, Steps};
 use eb_eval::{RunId, object_runs, run_baker};
@@ -55,4 +55,21 @@ pub fn evaluate_all<L: Ledger>(
         kept.put(*id, run)?;
     }
     Ok(())
+}
+
+/// What came of all runs of a project, each evaluated once.
+#[tactic(auto, unfolding(crate::specs::Recorded::recorded))]
+pub fn evaluate_project<L: Ledger>(
+    alloc: Global,
+    rules: &Rules,
+    project: &Project,
+    steps: &mut Steps<L>,
+) -> Result<Record, Memory>
+    ensures kept { IfOk result (λ kept. kept ≡ recorded rules.now project.now) }
+    ensures steps { OnOk result (steps.new ≡ steps.old + length (runs.runs_of rules.now project.now)) }
+{
+    let ids = runs_of(alloc, rules, project)?;
+    let mut kept = Record::open(alloc);
+    evaluate_all(&mut kept, alloc, rules, project, ids.items(), steps)?;
+    Ok(kept)
 }

@@ -7,6 +7,6 @@ pub mod laws;
 pub mod near;
 
 pub use again::renew_runs;
-pub use evaluating::{evaluate_all, runs_of};
+pub use evaluating::{evaluate_all, evaluate_project, runs_of};
 pub use laws::renewals_are_exact;
 pub use near::scene_gone;

@@ -1,8 +1,10 @@
-use Rattle.std.proofs.Common.{◌≡◌, drop}
-use Rattle.std.specs.List.{fold}
-use Rattle.eb_bake.specs.Baking.{with_runs_of, merged_all}
+use Rattle.std.proofs.Common.{◌≡◌}
+use Rattle.std.specs.List.{fold, flat_map}
+use Rattle.eb_merge.specs.Objects.{nothing_merged}
+use Rattle.eb_rerun.specs.Recorded.{scene_objects}
+use Rattle.eb_bake.specs.Baking.{with_object_of}
 use Rattle.eb_bake.proofs.merging.merged.Given as goal
 
--- the objects that are left do the rest
-abbrev pub invariant-loop-object : goal.invariant-loop-object
-invariant-loop-object l = fold (with_runs_of l.project) l.merged (drop l.object-index l.objects) ≡ merged_all l.fn.project l.fn.objects
+-- the objects of the scenes so far
+abbrev pub invariant-loop-scene : goal.invariant-loop-scene
+invariant-loop-scene l = l.merged ≡ fold (with_object_of l.fn.rules l.fn.project) nothing_merged (flat_map (scene_objects l.fn.project) l.yielded)

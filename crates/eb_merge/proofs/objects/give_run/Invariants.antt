@@ -5,4 +5,4 @@ use Rattle.eb_merge.proofs.objects.give_run.Given as goal
 
 -- the outputs that are left do the rest
 abbrev pub invariant-loop-output : goal.invariant-loop-output
-invariant-loop-output l = fold (own_after_output l.run.baker) l.own (drop l.output-index l.output-items) ≡ fold (own_after_output l.fn.run.baker) l.fn.own (outputs_of l.fn.run.run.outcome)
+invariant-loop-output l = fold (own_after_output l.id.baker) l.own (drop l.output-index l.output-items) ≡ fold (own_after_output l.fn.id.baker) l.fn.own (outputs_of l.fn.run.outcome)

@@ -1,8 +1,8 @@
 use Rattle.std.proofs.Common.{◌≡◌, drop}
 use Rattle.std.specs.List.{fold}
-use Rattle.eb_merge.specs.Objects.{with_extras}
+use Rattle.eb_merge.specs.Objects.{outputs_of, with_extra}
 use Rattle.eb_merge.proofs.objects.put_extras.Given as goal
 
--- the runs that are left do the rest
-abbrev pub invariant-loop-run : goal.invariant-loop-run
-invariant-loop-run l = fold (with_extras l.place) l.entities (drop l.run-index l.runs) ≡ fold (with_extras l.fn.place) l.fn.entities l.fn.runs
+-- the outputs that are left do the rest
+abbrev pub invariant-loop-output : goal.invariant-loop-output
+invariant-loop-output l = fold (with_extra l.place) l.entities (drop l.output-index l.output-items) ≡ fold (with_extra l.fn.place) l.fn.entities (outputs_of l.fn.run.outcome)
