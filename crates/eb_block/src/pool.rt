@@ -1,5 +1,5 @@
 // A pool of blocks: blocks that are spare, and how many are out.
-ghost use Rattle.std.specs.Prelude.{◌≡◌, ◌+◌, ◌-◌, ◌≤◌, ◌<◌, length, OnOk, OnErr};
+ghost use Rattle.std.specs.Prelude.{◌≡◌, ◌+◌, ◌-◌, ◌≤◌, ◌<◌, length, max, OnOk, OnErr};
 ghost use Rattle.eb_block.specs.Bytes.{zero_bytes};
 ghost use Rattle.eb_block.specs.Counts.{counts};
 
@@ -51,15 +51,35 @@ impl Pool {
         Ok(())
     }
 
-    /// Makes at least so many blocks spare. Where there is no memory, those that were made stay.
-    pub fn reserve(&mut self, blocks: u32) -> Result<(), Memory>
-        ensures ok { OnOk result (blocks ≤ self.new.spare) }
+    // As many blocks more as make so many spare. Where there is no memory, those that were made stay.
+    fn add(&mut self, blocks: usize) -> Result<(), AllocError>
+        ensures ok { OnOk result (self.new ≡ counts (max self.old.spare blocks) self.old.out) }
         ensures kept { self.old.spare ≤ self.new.spare }
         ensures out { self.new.out ≡ self.old.out }
     {
-        let wanted = blocks as usize;
-        while wanted > self.blocks.len() {
+        while blocks > self.blocks.len() {
             self.add_one()?;
+        }
+        Ok(())
+    }
+
+    // Gives spare blocks up, so that so many are left.
+    fn shrink(&mut self, blocks: usize)
+        requires { blocks ≤ self.old.spare }
+        ensures { self.new ≡ counts blocks self.old.out }
+    {
+        self.blocks.truncate(blocks);
+    }
+
+    /// Makes so many blocks spare; none where as many are. Where there is no memory, the pool is as it was.
+    pub fn reserve(&mut self, blocks: u32) -> Result<(), Memory>
+        ensures ok { OnOk result (self.new ≡ counts (max self.old.spare blocks) self.old.out) }
+        ensures err { OnErr result (self.new ≡ self.old) }
+    {
+        let spare = self.blocks.len();
+        if self.add(blocks as usize).is_err() {
+            self.shrink(spare);
+            return Err(Memory);
         }
         Ok(())
     }

@@ -1,4 +1,5 @@
 pub mod Answering
 pub mod Faults
+pub mod Runs
 pub mod Told
 pub mod Words

@@ -5,7 +5,8 @@ ghost use Rattle.eb_outside.specs.declared.errors.OutsideError.TheVariants.{Faul
 ghost use Rattle.eb_serve.specs.Machines.{step};
 ghost use Rattle.eb_session.specs.Requests.{request_of};
 ghost use Rattle.eb_session.specs.declared.requests.Request.TheVariants.{Publish};
-ghost use Rattle.eb_run.specs.Answering.{answering, most_answers, IsPublication};
+ghost use Rattle.eb_run.specs.Answering.{answering, most_answers, IsPublication, IsNextSection};
+ghost use Rattle.eb_serve.specs.Remains.{KeepsBut};
 
 use eb_base::{Steps, Text};
 use eb_outside::{OutsideError, Shelf};
@@ -32,6 +33,7 @@ fn reply_to<H: Shelf, L: Ledger>(
     ensures later { H.faults shelf.old ≤ H.faults shelf.new }
     ensures cause { IsErrOf result Fault → Rose (H.faults shelf.old) (H.faults shelf.new) }
     ensures fails { IsErrOf result Fault → IsPublication line.now }
+    ensures others { KeepsBut (IsNextSection session.old.generation) (H.files shelf.old) (H.files shelf.new) }
 {
     let mut steps: Steps<L> = Steps::open(blank);
     match session.line(LineMode::Free, line, shelf, &mut steps) {
@@ -78,13 +80,17 @@ impl Responder for Answering {
     ghost use Rattle.std.proofs.lemmas.Bool.{false≢true};
     ghost use Rattle.eb_session.specs.Machine.{replied};
     ghost use Rattle.eb_session.proofs.RequestFacts.{request_of-long};
-    ghost use Rattle.eb_run.specs.Answering.{answering, as_step, answered-by, most_answers, IsPublication};
+    ghost use Rattle.eb_run.specs.Answering.{answering, as_step, answered-by, most_answers, IsPublication, IsNextSection};
 
     ghost answered = { answering };
 
     ghost answers_left = { most_answers };
 
     ghost may_fail = { IsPublication };
+
+    ghost written = { λ state. state.generation };
+
+    ghost names = { IsNextSection };
 
     ghost long_alike = { λ a b long_a long_b state files. ap as_step (answered-by a state files ∙ ap (λ r. replied r state files) (request_of-long a long_a ∙ sym (request_of-long b long_b)) ∙ sym (answered-by b state files)) };
 

@@ -1,11 +1,13 @@
 // The whole run: words, opening, lines, status.
-ghost use Rattle.std.specs.Prelude.{◌≡◌, ◌≢◌, ◌<◌, ◌≤◌, ◌-◌, ◌^◌, ◌⊎◌, ℕ, Bool, true, false, None, Ok, IfOk, IfSome, OnOk, IsErrOf, ◌↔◌};
+ghost use Rattle.std.specs.Prelude.{◌≡◌, ◌≢◌, ◌+◌, ◌<◌, ◌≤◌, ◌-◌, ◌^◌, ◌⊎◌, ℕ, Bool, true, false, None, Ok, IfOk, IfSome, OnOk, IsErrOf, ◌↔◌};
 ghost use Rattle.eb_outside.specs.Causes.{Rose};
 ghost use Rattle.eb_run.specs.Words.{is_form};
 ghost use Rattle.eb_session.specs.Opening.{opened, OpensAs};
 ghost use Rattle.eb_serve.specs.Machines.{ended};
 ghost use Rattle.eb_serve.specs.Progress.{first_standing, whole, IsFront, IsSpent};
-ghost use Rattle.eb_run.specs.Answering.{answering};
+ghost use Rattle.eb_serve.specs.Remains.{KeepsBut, IsWritten, TakesAtMost};
+ghost use Rattle.eb_run.specs.Answering.{answering, IsNextSection};
+ghost use Rattle.eb_run.specs.Runs.{Runs, moment};
 ghost use Rattle.eb_run.specs.Told.{told, Follows, IsFaultless, IsRefused, IsWithin, WhereTold};
 ghost use Rattle.eb_run.specs.Faults.{HasAnswered, IsAtOpening, IsAtPublication};
 
@@ -59,6 +61,8 @@ fn answer_lines<H: Shelf, I: Source, O: Sink>(
         (H.files shelf.new) (I.left source.new) (O.put sink.new) }
     ensures status { IfOk result (λ status. status ≡ 0) }
     ensures spent { OnOk result (IsSpent (I.left source.new)) }
+    ensures taken { TakesAtMost (limits.now.bytes + 1) (I.left source.old) (I.left source.new) }
+    ensures names { KeepsBut (IsWritten IsNextSection limits.now.lines) (H.files shelf.old) (H.files shelf.new) }
     ensures causes { IsErrOf result Stop.Outside → Rose (O.faults sink.old) (O.faults sink.new)
         ⊎ ((Rose (I.faults source.old) (I.faults source.new) × HasAnswered (H.files shelf.old) (I.left source.old) (I.left source.new) (O.put sink.old) (O.put sink.new))
         ⊎ (Rose (H.faults shelf.old) (H.faults shelf.new) × IsAtPublication limits.now.lines limits.now.bytes (H.files shelf.old) (I.left source.old) (O.put sink.old) (O.put sink.new))) }
@@ -97,6 +101,8 @@ fn outcome<H: Shelf, I: Source, O: Sink>(
         ⊎ (Rose (H.faults shelf.old) (H.faults shelf.new) × (IsAtOpening (I.left source.old) (I.left source.new) (O.put sink.old) (O.put sink.new)
         ⊎ IsAtPublication limits.now.lines limits.now.bytes (H.files shelf.old) (I.left source.old) (O.put sink.old) (O.put sink.new)))) }
     ensures spent { IfOk result (λ status. status ≡ 0 → IsSpent (I.left source.new)) }
+    ensures taken { TakesAtMost (limits.now.bytes + 1) (I.left source.old) (I.left source.new) }
+    ensures names { KeepsBut (IsWritten IsNextSection limits.now.lines) (H.files shelf.old) (H.files shelf.new) }
     ensures untouched { (is_form words.now ≡ false) ⊎ (result ≡ Ok 3) → (I.left source.new ≡ I.left source.old) × (I.faults source.new ≡ I.faults source.old) }
 {
     if !is_session(words) {
@@ -124,26 +130,9 @@ pub fn run_within<T: Threads + Sync, H: Shelf, I: Source, O: Sink>(
     source: &mut I,
     sink: &mut O,
 ) -> u8
-    ensures headline { IsFaultless (H.faults shelf.old) (H.faults shelf.new) (I.faults source.old) (I.faults source.new) (O.faults sink.old) (O.faults sink.new) → result ≢ 4 →
-        told limits.now.lines limits.now.bytes words.now (H.files shelf.old) (I.left source.old) (O.put sink.old)
-        ≡ ended result (H.files shelf.new) (I.left source.new) (O.put sink.new) }
-    ensures told { result ≢ 1 → result ≢ 4 →
-        told limits.now.lines limits.now.bytes words.now (H.files shelf.old) (I.left source.old) (O.put sink.old)
-        ≡ ended result (H.files shelf.new) (I.left source.new) (O.put sink.new) }
-    ensures complete { IsFaultless (H.faults shelf.old) (H.faults shelf.new) (I.faults source.old) (I.faults source.new) (O.faults sink.old) (O.faults sink.new) →
-        WhereTold (H.files shelf.old) (I.left source.old) (O.put sink.old) (λ files input held. IsWithin limits.now.lines limits.now.bytes words.now files input → (result ≡ 4) ⊎ (result ≡ 0)) }
-    ensures front { (result ≡ 1) ⊎ (result ≡ 4) → IsFront (O.put sink.new)
-        (told limits.now.lines limits.now.bytes words.now (H.files shelf.old) (I.left source.old) (O.put sink.old)) }
-    ensures done { result ≡ 0 → (is_form words.now ≡ true) × IsSpent (I.left source.new) }
-    ensures causes { result ≡ 1 → Rose (O.faults sink.old) (O.faults sink.new)
-        ⊎ ((Rose (I.faults source.old) (I.faults source.new) × HasAnswered (H.files shelf.old) (I.left source.old) (I.left source.new) (O.put sink.old) (O.put sink.new))
-        ⊎ (Rose (H.faults shelf.old) (H.faults shelf.new) × (IsAtOpening (I.left source.old) (I.left source.new) (O.put sink.old) (O.put sink.new)
-        ⊎ IsAtPublication limits.now.lines limits.now.bytes (H.files shelf.old) (I.left source.old) (O.put sink.old) (O.put sink.new)))) }
-    ensures words { result ≡ 2 → is_form words.now ≡ false }
-    ensures no_form { is_form words.now ≡ false → (result ≡ 2) ⊎ ((result ≡ 1) ⊎ (result ≡ 4)) }
-    ensures refused { result ≡ 3 → (is_form words.now ≡ true) × IfSome (H.files shelf.old) IsRefused }
-    ensures untouched { (is_form words.now ≡ false) ⊎ (result ≡ 3) → (I.left source.new ≡ I.left source.old) × (I.faults source.new ≡ I.faults source.old) }
-    ensures range { result ≤ 5 }
+    ensures { Runs limits.now.lines limits.now.bytes words.now result
+        (moment (H.files shelf.old) (I.left source.old) (O.put sink.old) (H.faults shelf.old) (I.faults source.old) (O.faults sink.old))
+        (moment (H.files shelf.new) (I.left source.new) (O.put sink.new) (H.faults shelf.new) (I.faults source.new) (O.faults sink.new)) }
 {
     match outcome(alloc, limits, words, shelf, source, sink) {
         Ok(status) => status,
@@ -163,26 +152,9 @@ pub fn run<T: Threads + Sync, H: Shelf, I: Source, O: Sink>(
     source: &mut I,
     sink: &mut O,
 ) -> u8
-    ensures headline { IsFaultless (H.faults shelf.old) (H.faults shelf.new) (I.faults source.old) (I.faults source.new) (O.faults sink.old) (O.faults sink.new) → result ≢ 4 →
-        told (2 ^ 32 - 1) (2 ^ 40) words.now (H.files shelf.old) (I.left source.old) (O.put sink.old)
-        ≡ ended result (H.files shelf.new) (I.left source.new) (O.put sink.new) }
-    ensures told { result ≢ 1 → result ≢ 4 →
-        told (2 ^ 32 - 1) (2 ^ 40) words.now (H.files shelf.old) (I.left source.old) (O.put sink.old)
-        ≡ ended result (H.files shelf.new) (I.left source.new) (O.put sink.new) }
-    ensures complete { IsFaultless (H.faults shelf.old) (H.faults shelf.new) (I.faults source.old) (I.faults source.new) (O.faults sink.old) (O.faults sink.new) →
-        WhereTold (H.files shelf.old) (I.left source.old) (O.put sink.old) (λ files input held. IsWithin (2 ^ 32 - 1) (2 ^ 40) words.now files input → (result ≡ 4) ⊎ (result ≡ 0)) }
-    ensures front { (result ≡ 1) ⊎ (result ≡ 4) → IsFront (O.put sink.new)
-        (told (2 ^ 32 - 1) (2 ^ 40) words.now (H.files shelf.old) (I.left source.old) (O.put sink.old)) }
-    ensures done { result ≡ 0 → (is_form words.now ≡ true) × IsSpent (I.left source.new) }
-    ensures causes { result ≡ 1 → Rose (O.faults sink.old) (O.faults sink.new)
-        ⊎ ((Rose (I.faults source.old) (I.faults source.new) × HasAnswered (H.files shelf.old) (I.left source.old) (I.left source.new) (O.put sink.old) (O.put sink.new))
-        ⊎ (Rose (H.faults shelf.old) (H.faults shelf.new) × (IsAtOpening (I.left source.old) (I.left source.new) (O.put sink.old) (O.put sink.new)
-        ⊎ IsAtPublication (2 ^ 32 - 1) (2 ^ 40) (H.files shelf.old) (I.left source.old) (O.put sink.old) (O.put sink.new)))) }
-    ensures words { result ≡ 2 → is_form words.now ≡ false }
-    ensures no_form { is_form words.now ≡ false → (result ≡ 2) ⊎ ((result ≡ 1) ⊎ (result ≡ 4)) }
-    ensures refused { result ≡ 3 → (is_form words.now ≡ true) × IfSome (H.files shelf.old) IsRefused }
-    ensures untouched { (is_form words.now ≡ false) ⊎ (result ≡ 3) → (I.left source.new ≡ I.left source.old) × (I.faults source.new ≡ I.faults source.old) }
-    ensures range { result ≤ 5 }
+    ensures { Runs (2 ^ 32 - 1) (2 ^ 40) words.now result
+        (moment (H.files shelf.old) (I.left source.old) (O.put sink.old) (H.faults shelf.old) (I.faults source.old) (O.faults sink.old))
+        (moment (H.files shelf.new) (I.left source.new) (O.put sink.new) (H.faults shelf.new) (I.faults source.new) (O.faults sink.new)) }
 {
     run_within(rt, alloc, &Limits::most(), words, shelf, source, sink)
 }

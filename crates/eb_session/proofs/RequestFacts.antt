@@ -1,10 +1,8 @@
 -- Lines that are no requests.
 use Rattle.std.proofs.Common.{◌≡◌, ℕ, ◌<◌, false, cond, List, length, ap, arith, nat_le}
-use Rattle.std.specs.Prelude.{Result, Err}
+use Rattle.std.specs.Prelude.{Err}
 use Rattle.std.proofs.lemmas.Bool.Decides.{nat_tests}
 use Rattle.eb_json.specs.Documents.{document_of}
-use Rattle.eb_session.specs.declared.requests.Request.{Request}
-use Rattle.eb_session.specs.declared.requests.RequestFault.{RequestFault}
 use Rattle.eb_session.specs.declared.requests.RequestFault.TheVariants.{LineTooLong}
 use Rattle.eb_session.specs.Requests.{request_of, in_document}
 

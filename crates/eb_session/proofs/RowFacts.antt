@@ -12,7 +12,7 @@ use Rattle.eb_scene.specs.Projects.{Content}
 use Rattle.eb_file.specs.declared.images.Image.{Image}
 use Rattle.eb_file.specs.declared.images.ImageRow.{ImageRow}
 use Rattle.eb_file.specs.Images.{IsPlain}
-use Rattle.eb_session.specs.Images.{the_place, stored_row, image_of, is_plain_entity, has_scene_one_alone, is_plain, image_where, guarded_image, row_where, before_rows, all_rows}
+use Rattle.eb_session.specs.Images.{the_place, stored_row, is_plain_entity, has_scene_one_alone, is_plain, image_where, guarded_image, row_where, before_rows, all_rows}
 use Rattle.eb_session.specs.Machine.{IsSection}
 use Rattle.eb_session.proofs.SectionFacts.{IsSection-image_of, IsPlain-image_of}
 

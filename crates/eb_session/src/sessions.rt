@@ -1,7 +1,7 @@
 // A session: the project as it stands, what of it is published, and the world that it runs in.
-ghost use Rattle.std.specs.Prelude.{◌≡◌, ◌<◌, ◌≤◌, ◌+◌, ◌^◌, Some, Ok, false, codes, option_map, IfOk, IfSome, IsErrOf, OnOk, string_bytes};
+ghost use Rattle.std.specs.Prelude.{◌≡◌, ◌≢◌, ◌<◌, ◌≤◌, ◌+◌, ◌^◌, Some, Ok, false, codes, option_map, IfOk, IfSome, IsErrOf, OnOk, string_bytes};
 ghost use Rattle.eb_outside.specs.Causes.{Rose};
-ghost use Rattle.eb_outside.specs.Shelves.{Files};
+ghost use Rattle.eb_outside.specs.Shelves.{Files, KeepsOthers};
 ghost use Rattle.eb_session.specs.Images.{image_in};
 ghost use Rattle.eb_session.specs.Machine.{State, step, bytes_of, section_name, published, published_as, edit_step, issues_step, project_step, dumped, performed, answered, IsSection};
 ghost use Rattle.eb_session.specs.Machine as machine;
@@ -234,6 +234,7 @@ impl Session {
         requires generation { self.old.generation < 2 ^ 62 }
         requires made { self.old.made + 65536 < 2 ^ 62 }
         ensures step { IfOk result (λ reply. option_map (published self.old) (H.files shelf.old) ≡ option_map (step reply.text self.new) (H.files shelf.new)) }
+        ensures others { KeepsOthers (H.files shelf.old) (H.files shelf.new) (section_name (self.old.generation + 1)) }
         ensures count { OnOk result (self.new.generation ≤ self.old.generation + 1) }
         ensures made { OnOk result (self.new.made ≤ self.old.made + 65536) }
         ensures later { H.faults shelf.old ≤ H.faults shelf.new }
@@ -259,6 +260,7 @@ impl Session {
         requires bytes { next.bytes.items ≡ bytes_of self.old.project.schema next.image }
         requires section { IsSection self.old.project.schema next.image }
         ensures step { IfOk result (λ reply. option_map (published_as (Some next.image) self.old) (H.files shelf.old) ≡ option_map (step reply.text self.new) (H.files shelf.new)) }
+        ensures others { KeepsOthers (H.files shelf.old) (H.files shelf.new) (section_name (self.old.generation + 1)) }
         ensures count { OnOk result (self.new.generation ≤ self.old.generation + 1) }
         ensures made { OnOk result (self.new.made ≤ self.old.made + 65536) }
         ensures later { H.faults shelf.old ≤ H.faults shelf.new }
@@ -406,6 +408,9 @@ impl Session {
         requires made { self.old.made + 65536 < 2 ^ 62 }
         requires edit { IsRequest request.now }
         ensures step { IfOk result (λ reply. option_map (performed request.now self.old) (H.files shelf.old) ≡ option_map (step reply.text self.new) (H.files shelf.new)) }
+        ensures apart { request.now ≢ Publish → IfOk result (λ reply. (files : Files) → performed request.now self.old files ≡ step reply.text self.new files) }
+        ensures still { request.now ≢ Publish → H.files shelf.new ≡ H.files shelf.old }
+        ensures others { KeepsOthers (H.files shelf.old) (H.files shelf.new) (section_name (self.old.generation + 1)) }
         ensures count { OnOk result (self.new.generation ≤ self.old.generation + 1) }
         ensures made { OnOk result (self.new.made ≤ self.old.made + 65536) }
         ensures later { H.faults shelf.old ≤ H.faults shelf.new }
@@ -436,6 +441,9 @@ impl Session {
         requires generation { self.old.generation < 2 ^ 62 }
         requires made { self.old.made + 65536 < 2 ^ 62 }
         ensures step { IfOk result (λ reply. option_map (answered line.now self.old) (H.files shelf.old) ≡ option_map (step reply.text self.new) (H.files shelf.new)) }
+        ensures apart { request_of line.now ≢ Ok Publish → IfOk result (λ reply. (files : Files) → answered line.now self.old files ≡ step reply.text self.new files) }
+        ensures still { request_of line.now ≢ Ok Publish → H.files shelf.new ≡ H.files shelf.old }
+        ensures others { KeepsOthers (H.files shelf.old) (H.files shelf.new) (section_name (self.old.generation + 1)) }
         ensures count { OnOk result (self.new.generation ≤ self.old.generation + 1) }
         ensures made { OnOk result (self.new.made ≤ self.old.made + 65536) }
         ensures later { H.faults shelf.old ≤ H.faults shelf.new }

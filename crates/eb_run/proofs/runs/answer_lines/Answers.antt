@@ -1,7 +1,9 @@
-use Rattle.std.proofs.Common.{inl, inr, arith}
+use Rattle.std.proofs.Common.{◌≡◌, ◌+◌, inl, inr, ap, ◌∙◌, arith}
 use Rattle.std.proofs.lemmas.Result.{err_from_is_err_and}
 use Rattle.eb_serve.specs.Progress.{first_standing, whole}
-use Rattle.eb_run.specs.Answering.{answering}
+use Rattle.eb_run.specs.Answering.{answering, IsNextSection}
+use Rattle.eb_session.specs.Machine.{State}
+use Rattle.eb_serve.proofs.RemainFacts.{KeepsBut-fewer}
 use Rattle.eb_run.proofs.CountFacts.{first_left}
 use Rattle.eb_run.proofs.FaultFacts.{HasAnswered-opened, IsAtPublication-opened}
 use Rattle.eb_run.proofs.ToldFacts.{Follows-serves, stops_alike}
@@ -37,3 +39,11 @@ returns-in_err-served-clause-causes g c failed =
 
 pub returns-clause-told : goal.returns-clause-told
 returns-clause-told g c = rw c.of-answering.ensures at (c.in_ok-served.ensures.told)
+
+pub returns-in_err-served-clause-names : goal.returns-in_err-served-clause-names
+returns-in_err-served-clause-names g c = KeepsBut-fewer IsNextSection (c.of-answering.result.generation + c.args.limits.now.lines) c.args.limits.now.lines (g.H.Shelf.files c.args.shelf.now) (g.H.Shelf.files c.serve-served.new.shelf)
+    (let none : c.of-answering.result.generation ≡ 0 = ap (λ (s : State). s.generation) c.of-answering.ensures ∙ c.requires.generation in omega arith) c.serve-served.ensures.names
+
+pub returns-clause-names : goal.returns-clause-names
+returns-clause-names g c = KeepsBut-fewer IsNextSection (c.of-answering.result.generation + c.args.limits.now.lines) c.args.limits.now.lines (g.H.Shelf.files c.args.shelf.now) (g.H.Shelf.files c.serve-served.new.shelf)
+    (let none : c.of-answering.result.generation ≡ 0 = ap (λ (s : State). s.generation) c.of-answering.ensures ∙ c.requires.generation in omega arith) c.serve-served.ensures.names
