@@ -120,7 +120,15 @@ impl Baker {
                     ..
                 } = self;
                 project.schema();
-                match renew(bake, self.alloc, rules, project, gone.items(), touched.as_slice(), steps) {
+                match renew(
+                    bake,
+                    self.alloc,
+                    rules,
+                    project,
+                    gone.items(),
+                    touched.as_slice(),
+                    steps,
+                ) {
                     Ok(done) => Ok(done),
                     Err(Memory) => {
                         self.spent = true;

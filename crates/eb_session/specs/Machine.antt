@@ -21,7 +21,8 @@ use Rattle.eb_scene.specs.Edits.{edited}
 use Rattle.eb_scene_text.specs.ProjectText.{canonical}
 use Rattle.eb_rules.specs.Kept.{Kept, coded_kept}
 use Rattle.eb_eval.specs.Runs.{runs_of}
-use Rattle.eb_bake.specs.Baking.{issues_of, rerun}
+use Rattle.eb_rerun.specs.Recorded.{rerun}
+use Rattle.eb_bake.specs.Baking.{issues_of}
 use Rattle.eb_bake.specs.IssueTexts.{issue_lines}
 use Rattle.eb_stream.specs.Loading.{AllOf, HasNumbersAlone, loaded, unloaded}
 use Rattle.eb_session.specs.Images.{the_place, image_in}
@@ -189,6 +190,30 @@ replied (Err fault) state files = step (no_request_text fault) state files
 -- a line and its answer
 unfoldable pub answered : List ℕ → State → Files → Step
 answered line state files = replied (request_of line) state files
+
+-- ---- how many runs of bakers are evaluated
+
+-- an edit that is done evaluates those that it makes anew
+abbrev pub evaluated : Kept → Content → Edit → Result Content EditFault → ℕ
+evaluated rules project edit (Ok next) = length (rerun rules project edit next)
+evaluated rules project edit (Err fault) = 0
+
+abbrev pub request_evaluates : Request → State → ℕ
+request_evaluates (request.Edit edit) state = evaluated state.rules state.project edit (edited state.project edit)
+request_evaluates request.Publish state = 0
+request_evaluates request.Dump state = 0
+request_evaluates request.Issues state = 0
+request_evaluates request.Project state = 0
+request_evaluates (request.Load scene section) state = 0
+request_evaluates (request.Unload scene section) state = 0
+
+abbrev pub asked_evaluates : Result Request RequestFault → State → ℕ
+asked_evaluates (Ok asked) state = request_evaluates asked state
+asked_evaluates (Err fault) state = 0
+
+-- no other line evaluates any
+unfoldable pub line_evaluates : List ℕ → State → ℕ
+line_evaluates line state = asked_evaluates (request_of line) state
 
 -- ---- what every step keeps
 

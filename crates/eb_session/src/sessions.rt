@@ -1,15 +1,17 @@
 // A session: the project as it stands, what of it is published, and the world that it runs in.
-ghost use Rattle.std.specs.Prelude.{◌≡◌, ◌≢◌, ◌<◌, ◌≤◌, ◌+◌, ◌^◌, Some, Ok, false, codes, option_map, IfOk, IfSome, IsErrOf, OnOk, string_bytes};
+ghost use Rattle.std.specs.Prelude.{◌≡◌, ◌≢◌, ◌<◌, ◌≤◌, ◌+◌, ◌^◌, Some, Ok, false, codes, length, option_map, IfOk, IfSome, IsErrOf, OnOk, string_bytes};
 ghost use Rattle.eb_outside.specs.Causes.{Rose};
 ghost use Rattle.eb_outside.specs.Shelves.{Files, KeepsOthers};
 ghost use Rattle.eb_session.specs.Images.{image_in};
-ghost use Rattle.eb_session.specs.Machine.{State, step, bytes_of, section_name, published, published_as, edit_step, issues_step, project_step, dumped, performed, answered, IsSection};
+ghost use Rattle.eb_session.specs.Machine.{State, step, bytes_of, section_name, published, published_as, edit_step, issues_step, project_step, dumped, performed, answered, evaluated, request_evaluates, line_evaluates, IsSection};
 ghost use Rattle.eb_session.specs.Machine as machine;
 ghost use Rattle.eb_session.specs.Opening.{opened, with_schema, with_rules, Opens, OpensAs};
 ghost use Rattle.eb_session.specs.Folders.{state_in};
 ghost use Rattle.eb_session.specs.Opening as opening;
 ghost use Rattle.std.specs.FinMap.{get};
+ghost use Rattle.eb_scene.specs.Edits.{edited};
 ghost use Rattle.eb_scene.specs.Validity.{IsEdit};
+ghost use Rattle.eb_eval.specs.Runs.{runs_of};
 ghost use Rattle.eb_session.specs.Requests.{request_of, IsRequest};
 ghost use Rattle.eb_session.specs.declared.requests.Request.TheVariants.{Publish};
 
@@ -198,7 +200,7 @@ fn read_folder<H: Shelf>(alloc: Global, shelf: &mut H) -> Result<Folder, OpenEnd
 
 impl Session {
     /// Opens a session on the folder: reads `schema.json`, then `bake.rules`, and then `project.json`, and bakes the
-    /// project. Baking counts its runs in `steps`; no clause says so yet. `docs/formats.md`, "The folder".
+    /// project: each run of a baker is one of `steps`. `docs/formats.md`, "The folder".
     pub fn open<H: Shelf, L: Ledger>(
         alloc: Global,
         shelf: &mut H,
@@ -207,6 +209,7 @@ impl Session {
         ensures opened { IfSome (H.files shelf.old) (λ files. OpensAs result (opened files)) }
         ensures first { IfOk result (λ session. session.generation ≡ 0) }
         ensures empty { IfOk result (λ session. session.made ≡ 0) }
+        ensures steps { IfOk result (λ session. steps.new ≡ steps.old + length (runs_of session.rules session.project)) }
         ensures files { H.files shelf.new ≡ H.files shelf.old }
         ensures later { H.faults shelf.old ≤ H.faults shelf.new }
         ensures cause { IsErrOf result OpenEnd.Shelf → Rose (H.faults shelf.old) (H.faults shelf.new) }
@@ -292,6 +295,7 @@ impl Session {
     fn edit<L: Ledger>(&mut self, edit: &Edit, steps: &mut Steps<L>) -> Result<Reply, Memory>
         requires { IsEdit edit.now }
         ensures step { IfOk result (λ reply. (files : Files) → edit_step edit.now self.old files ≡ step reply.text self.new files) }
+        ensures steps { OnOk result (steps.new ≡ steps.old + evaluated self.old.rules self.old.project edit.now (edited self.old.project edit.now)) }
         ensures count { OnOk result (self.new.generation ≡ self.old.generation) }
         ensures made { OnOk result (self.new.made ≡ self.old.made) }
     {
@@ -411,6 +415,7 @@ impl Session {
         ensures apart { request.now ≢ Publish → IfOk result (λ reply. (files : Files) → performed request.now self.old files ≡ step reply.text self.new files) }
         ensures still { request.now ≢ Publish → H.files shelf.new ≡ H.files shelf.old }
         ensures others { KeepsOthers (H.files shelf.old) (H.files shelf.new) (section_name (self.old.generation + 1)) }
+        ensures steps { OnOk result (steps.new ≡ steps.old + request_evaluates request.now self.old) }
         ensures count { OnOk result (self.new.generation ≤ self.old.generation + 1) }
         ensures made { OnOk result (self.new.made ≤ self.old.made + 65536) }
         ensures later { H.faults shelf.old ≤ H.faults shelf.new }
@@ -429,8 +434,8 @@ impl Session {
     }
 
     /// Answers one line, without its line feed. The shelf can end the session where the line asks for a
-    /// publication, and nowhere else. Baking counts its runs in `steps`; no clause says so yet.
-    #[tactic(auto, unfolding(crate::specs::Machine::answered))]
+    /// publication, and nowhere else. Each run of a baker that an edit makes anew is one of `steps`.
+    #[tactic(auto, unfolding(crate::specs::Machine::answered, crate::specs::Machine::line_evaluates))]
     pub fn line<H: Shelf, L: Ledger>(
         &mut self,
         _mode: LineMode,
@@ -444,6 +449,7 @@ impl Session {
         ensures apart { request_of line.now ≢ Ok Publish → IfOk result (λ reply. (files : Files) → answered line.now self.old files ≡ step reply.text self.new files) }
         ensures still { request_of line.now ≢ Ok Publish → H.files shelf.new ≡ H.files shelf.old }
         ensures others { KeepsOthers (H.files shelf.old) (H.files shelf.new) (section_name (self.old.generation + 1)) }
+        ensures steps { OnOk result (steps.new ≡ steps.old + line_evaluates line.now self.old) }
         ensures count { OnOk result (self.new.generation ≤ self.old.generation + 1) }
         ensures made { OnOk result (self.new.made ≤ self.old.made + 65536) }
         ensures later { H.faults shelf.old ≤ H.faults shelf.new }
