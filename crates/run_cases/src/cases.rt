@@ -2,7 +2,7 @@
 ghost use Rattle.std.specs.Prelude.{◌≡◌, option_map};
 ghost use Rattle.run_cases.specs.Wanted.{has_head, body_in, body_or};
 
-use case_parts::{CaseFault, Part};
+use case_parts::{CaseFault, Part, without_line_feed};
 use eb_base::Text;
 use eb_run::Limits;
 use std::alloc::Global;
@@ -106,14 +106,6 @@ impl<'a> Case<'a> {
     }
 }
 
-/// A line without its line feed.
-pub fn without_line_feed(line: &[u8]) -> &[u8] {
-    match line {
-        [front @ .., b'\n'] => front,
-        _ => line,
-    }
-}
-
 /// Whether a part is a file of the folder before the run.
 pub fn is_file(part: &Part) -> bool {
     part.word.bytes().contains(&b'.') && part.name.bytes().is_empty()
@@ -151,7 +143,9 @@ fn set_limit(limits: &mut Limits, line: &[u8]) -> Option<()> {
     match word {
         "lines" if number <= u64::from(u32::MAX) => limits.lines = number,
         "bytes" if number <= MOST_BYTES => limits.bytes = number,
-        "files" => limits.files = u32::try_from(number).ok()?.min(MOST_FILES),
+        "files" if number <= u64::from(MOST_FILES) => {
+            limits.files = u32::try_from(number).ok()?.min(MOST_FILES);
+        }
         _ => return None,
     }
     Some(())

@@ -3,9 +3,9 @@ ghost use Rattle.std.specs.Prelude.{◌≡◌, ◌++◌, Some, None, IfOk, All, 
 ghost use Rattle.std.specs.Fmt.{decimal};
 ghost use Rattle.run_cases.specs.Wanted.{body_in, body_or, status_line, IsKept};
 
-use crate::cases::{Case, body_in, without_line_feed};
+use crate::cases::{Case, body_in};
 use crate::playing::Ending;
-use case_parts::{CaseFault, Part, first_difference};
+use case_parts::{CaseFault, Part, first_difference, without_line_feed};
 use eb_base::Text;
 use eb_outside::MemShelf;
 use std::alloc::Global;

@@ -3,40 +3,9 @@ use crate::cases::{Case, is_known, only_a_case_says};
 use crate::comparing::first_mismatch;
 use crate::playing::play;
 use crate::telling::described;
-use case_parts::{CaseFault, Part, cases_start, read_parts};
-use std::fs;
+use case_parts::{CaseFault, Part, Tally, cases_start, read_file};
 use std::rt::Files;
 use std::thread::Threads;
-
-/// How many cases passed and failed. A file that can't be played counts as a failed case.
-#[derive(Clone, Copy, Default)]
-pub struct Tally {
-    pub passed: u64,
-    pub failed: u64,
-}
-
-impl Tally {
-    /// Whether there were cases, and all of them passed.
-    pub fn is_good(&self) -> bool {
-        self.failed == 0 && self.passed != 0
-    }
-}
-
-/// The names of the case files of the current folder, sorted.
-pub fn sorted_names<R: Files + AllocGlobal + Clone + Drop>(
-    rt: &R,
-) -> Result<Vec<String>, CaseFault> {
-    let alloc = rt.alloc();
-    let mut names = Vec::new(alloc);
-    for entry in fs::read_dir(rt, ".")? {
-        let entry = entry?;
-        if entry.file_name().ends_with(".case") {
-            names.push(String::from_str(alloc, entry.file_name())?)?;
-        }
-    }
-    names.sort()?;
-    Ok(names)
-}
 
 /// Plays the cases of a file, and prints a line for each.
 pub fn play_file<R: Files + AllocGlobal + Print + Threads + Sync>(
@@ -44,19 +13,19 @@ pub fn play_file<R: Files + AllocGlobal + Print + Threads + Sync>(
     name: &str,
     tally: &mut Tally,
 ) -> Result<(), CaseFault> {
-    match read_file(rt, name) {
+    match read_cases(rt, name) {
         Ok(parts) => play_parts(rt, name, parts.as_slice(), tally),
         Err(fault) => {
-            tally.failed = tally.failed.saturating_add(1);
+            tally.count(false);
             println!(rt; "FAILED {name}: {fault}")?;
             Ok(())
         }
     }
 }
 
-fn read_file<R: Files + AllocGlobal>(rt: &R, name: &str) -> Result<Vec<Part>, CaseFault> {
-    let text = fs::read_to_string(rt, name)?;
-    let parts = read_parts(rt.alloc(), text.as_str())?;
+/// The parts of a file that has cases alone.
+fn read_cases<R: Files + AllocGlobal>(rt: &R, name: &str) -> Result<Vec<Part>, CaseFault> {
+    let parts = read_file(rt, name)?;
     check_heads(parts.as_slice())?;
     Ok(parts)
 }
@@ -103,15 +72,10 @@ fn report<R: AllocGlobal + Print>(
     why: Option<String>,
     tally: &mut Tally,
 ) -> Result<(), CaseFault> {
+    tally.count(why.is_none());
     match why {
-        None => {
-            tally.passed = tally.passed.saturating_add(1);
-            println!(rt; "ok {file}: {name}")?;
-        }
-        Some(why) => {
-            tally.failed = tally.failed.saturating_add(1);
-            println!(rt; "FAILED {file}: {name}: {why}")?;
-        }
+        None => println!(rt; "ok {file}: {name}")?,
+        Some(why) => println!(rt; "FAILED {file}: {name}: {why}")?,
     }
     Ok(())
 }

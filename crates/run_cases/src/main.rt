@@ -9,8 +9,8 @@ mod noting_shelf;
 mod playing;
 mod telling;
 
-use crate::files::{Tally, play_file, sorted_names};
-use case_parts::CaseFault;
+use crate::files::play_file;
+use case_parts::{CaseFault, Tally, sorted_names};
 use std::io;
 use std::process::ExitCode;
 use std::rt::Files;
@@ -20,7 +20,7 @@ use std::thread::Threads;
 fn play_folder<R: Files + AllocGlobal + Print + Clone + Drop + Threads + Sync>(
     rt: &R,
 ) -> Result<bool, CaseFault> {
-    let names = sorted_names(rt)?;
+    let names = sorted_names(rt, ".case")?;
     let mut tally = Tally::default();
     for name in names.as_slice() {
         play_file(rt, name.as_str(), &mut tally)?;
