@@ -10,7 +10,6 @@ use Rattle.eb_scene.specs.Touched.{touched}
 use Rattle.eb_scene.specs.Validity.{IsValid}
 use Rattle.eb_scene.proofs.ValidEdits.{valid_ascends}
 use Rattle.eb_rules.specs.Kept.{Kept}
-use Rattle.eb_eval.specs.Runs.{runs_of}
 use Rattle.eb_eval.specs.declared.ids.RunId.{RunId}
 use Rattle.eb_record.specs.Records as records
 use Rattle.eb_rerun.specs.Again.{again, scene_gone}

@@ -1,7 +1,6 @@
 -- The runs of an object among those that are kept of its project.
-use Rattle.std.proofs.Common.{◌≡◌, ℕ, List, [], ◌∷◌, ◌++◌, map, Bool, true, false, cond, Some, None, refl, sym, ap, ◌∙◌}
+use Rattle.std.proofs.Common.{◌≡◌, ℕ, List, [], ◌∷◌, ◌++◌, map, Bool, true, false, cond, Some, None, refl, ap, ◌∙◌}
 use Rattle.std.specs.Prelude.{◌||◌, ◌&&◌}
-use Rattle.std.specs.FinMap.{get}
 use Rattle.std.specs.List.{filter, AllByRecursion}
 use Rattle.eb_scene.specs.Numbers.{has_number}
 use Rattle.eb_scene.specs.Projects.{Content}

@@ -1,5 +1,5 @@
 -- Which entities are not as they were.
-use Rattle.std.specs.Prelude.{ℕ, ◌==◌, Bool, true, false, cond, ◌&&◌, not, List, Option, Some, None, fold, is_some}
+use Rattle.std.specs.Prelude.{◌==◌, Bool, true, false, ◌&&◌, not, List, Option, Some, None, fold, is_some}
 use Rattle.std.specs.Cmp.Lexicographic.{pointwise}
 use Rattle.std.specs.FinMap.{FinMap, empty, entries, get, insert, keys}
 use Rattle.std.specs.Ordering.{int_eq}

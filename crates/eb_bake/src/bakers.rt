@@ -105,6 +105,7 @@ impl Baker {
         ensures rules { self.new.rules ≡ self.old.rules }
         ensures schema { self.new.project.schema ≡ self.old.project.schema }
     {
+        // (for what they tell alone: a law, and that the project is valid)
         renewals_are_exact();
         self.project.schema();
         let Ok(gone) = scene_gone(self.alloc, &self.project, edit) else {

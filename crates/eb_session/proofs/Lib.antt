@@ -4,4 +4,3 @@ pub mod KeptFacts
 pub mod OpeningFacts
 pub mod SectionFacts
 pub mod RowFacts
-pub mod EditFacts

@@ -8,7 +8,7 @@ use Rattle.eb_scene.specs.Edits.{edited}
 use Rattle.eb_scene.specs.Rebuilding.{after_edit, all_edited}
 use Rattle.eb_scene_text.specs.declared.drafts.DraftProject.{DraftProject}
 use Rattle.eb_scene_text.specs.ProjectForm.{draft_at, draft_edits, without_all, made_by, project_of}
-use Rattle.eb_session.proofs.EditFacts.{edited-schema}
+use Rattle.eb_bake.proofs.KeptSchema.{edited-schema}
 use Rattle.std.specs.Prelude.{Option, None, Some, IfSome, IfOk, Result, Ok, Err}
 use Rattle.std.specs.FinMap.{get}
 use Rattle.eb_outside.specs.Shelves.{Files}

@@ -1,6 +1,6 @@
 use Rattle.std.proofs.Common.{◌≡◌, drop, map}
 use Rattle.std.specs.List.{fold}
-use Rattle.eb_rerun.specs.Recorded.{recorded, scene_objects}
+use Rattle.eb_rerun.specs.Recorded.{scene_objects}
 use Rattle.eb_bake.specs.Baking.{with_object_of}
 use Rattle.eb_bake.proofs.merging.add_scene.Given as goal
 
