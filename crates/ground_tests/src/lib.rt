@@ -14,6 +14,4 @@ mod outside;
 #[cfg(test)]
 mod rows;
 #[cfg(test)]
-mod schema_refusals;
-#[cfg(test)]
 mod schemas;

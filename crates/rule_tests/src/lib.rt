@@ -1,23 +1,7 @@
-//! Tests of the rule language: texts that are read or refused, their resolved trees, and visible names.
+//! Tests of the rule language that no row of `rule_cases` makes: visible names, and bakers by number and by type.
 #![tactic(auto)]
 
 #[cfg(test)]
-mod grammar_tests;
-#[cfg(test)]
-mod lines;
-#[cfg(test)]
-mod long_texts;
+mod baker_tests;
 #[cfg(test)]
 mod name_tests;
-#[cfg(test)]
-mod plan_tests;
-#[cfg(test)]
-mod plan_texts;
-#[cfg(test)]
-mod printed_texts;
-#[cfg(test)]
-mod read_texts;
-#[cfg(test)]
-mod refused_texts;
-#[cfg(test)]
-mod text_tests;

@@ -1,50 +1,9 @@
-// What stands in a small project behind its edits, which keys they touch, and which rule they break first.
+// What stands in a small project behind its edits, and which keys they touch.
 use crate::edit_texts::*;
 use crate::making::{apply, edited};
 use eb_base::AuthorNo;
-use eb_scene::{EditFault, Given, Key, Project};
+use eb_scene::{Given, Key, Project};
 use std::alloc::Global;
-
-/// Edits, one more, and the rule that it breaks.
-type Refusal = (&'static [&'static str], &'static str, EditFault);
-
-const REFUSALS: [Refusal; 14] = [
-    (&[SCENE], SCENE, EditFault::SceneTaken),
-    (&[SCENE], NO_SCENE_2, EditFault::NoScene),
-    (&FAMILY, BELOW_ITSELF, EditFault::Cycle),
-    (&FAMILY, BELOW_ITS_OWN, EditFault::Cycle),
-    (&FAMILY, OBJECT_5_BELOW_9, EditFault::ObjectTaken),
-    (&FAMILY, OBJECT_7_BELOW_9, EditFault::NoParent),
-    (&FAMILY, MARK_64, EditFault::SectionRange),
-    (&FAMILY, MARK_OF_NONE, EditFault::NoObject),
-    (&FAMILY, GUN_WITHOUT_RANK, EditFault::BadValue { index: 1 }),
-    (&FAMILY, GUN_WITH_SPEED, EditFault::NoField),
-    (&FAMILY, NO_RANK, EditFault::NoComponent),
-    (&ARMED, NO_SWORD, EditFault::NoType),
-    (&EQUIPPED, SPEED_OF_3, EditFault::NoField),
-    (&EQUIPPED, POWER_OF_3, EditFault::NoAsset),
-];
-
-/// What an edit behind others answers that is refused.
-fn refused(alloc: Global, before: &[&str], edit: &str) -> Option<EditFault> {
-    let mut project = edited(alloc, ARMS, before)?;
-    apply(alloc, &mut project, edit)?.err()
-}
-
-/// The first edit that breaks another rule first.
-fn other_refusal(alloc: Global, cases: &[Refusal]) -> Option<&'static str> {
-    for (before, edit, wanted) in cases {
-        if refused(alloc, before, edit) != Some(*wanted) {
-            return Some(*edit);
-        }
-    }
-    None
-}
-
-#[test]
-fn edits_break_the_first_of_their_rules(rt: HostRuntime) {
-    assert_eq!(rt; other_refusal(rt.alloc(), &REFUSALS), None);
-}
 
 const MOVED: [Key; 3] = [
     Key::Parent {

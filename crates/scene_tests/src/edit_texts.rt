@@ -8,8 +8,6 @@ pub const SCENE: &str = r#"{"do":"add_scene","scene":1}"#;
 
 pub const NO_SCENE: &str = r#"{"do":"remove_scene","scene":1}"#;
 
-pub const NO_SCENE_2: &str = r#"{"do":"remove_scene","scene":2}"#;
-
 pub const OBJECT_5: &str =
     r#"{"do":"add_object","object":5,"parent":null,"scene":1,"section":null}"#;
 
@@ -19,52 +17,23 @@ pub const OBJECT_3: &str = r#"{"do":"add_object","object":3,"parent":5,"scene":1
 
 pub const OBJECT_6: &str = r#"{"do":"add_object","object":6,"parent":4,"scene":1,"section":null}"#;
 
-pub const OBJECT_5_BELOW_9: &str =
-    r#"{"do":"add_object","object":5,"parent":9,"scene":1,"section":null}"#;
-
-pub const OBJECT_7_BELOW_9: &str =
-    r#"{"do":"add_object","object":7,"parent":9,"scene":1,"section":null}"#;
-
 pub const NO_OBJECT_4: &str = r#"{"do":"remove_object","object":4,"scene":1}"#;
 
-pub const BELOW_ITSELF: &str = r#"{"do":"set_parent","object":5,"parent":5,"scene":1}"#;
-
-pub const BELOW_ITS_OWN: &str = r#"{"do":"set_parent","object":5,"parent":6,"scene":1}"#;
-
 pub const OBJECT_6_BELOW_3: &str = r#"{"do":"set_parent","object":6,"parent":3,"scene":1}"#;
-
-pub const MARK_64: &str = r#"{"do":"set_section","object":5,"scene":1,"section":64}"#;
-
-pub const MARK_OF_NONE: &str = r#"{"do":"set_section","object":9,"scene":1,"section":64}"#;
 
 pub const MARK_63: &str = r#"{"do":"set_section","object":4,"scene":1,"section":63}"#;
 
 pub const GUN: &str =
     r#"{"do":"put_component","fields":{"model":2,"rank":3},"kind":"Gun","object":6,"scene":1}"#;
 
-pub const GUN_WITHOUT_RANK: &str =
-    r#"{"do":"put_component","fields":{"model":2,"rank":null},"kind":"Gun","object":6,"scene":1}"#;
-/// The model is one unit, 1/65536.
-pub const GUN_WITH_SPEED: &str =
-    r#"{"do":"put_component","fields":{"model":"0.0000152587890625","speed":1},"kind":"Gun","object":6,"scene":1}"#;
-
 pub const RANK: &str =
     r#"{"do":"set_field","field":"rank","kind":"Gun","object":6,"scene":1,"value":4}"#;
 
-pub const NO_RANK: &str =
-    r#"{"do":"set_field","field":"rank","kind":"Gun","object":6,"scene":1,"value":null}"#;
-
 pub const NO_GUN: &str = r#"{"do":"remove_component","kind":"Gun","object":6,"scene":1}"#;
-
-pub const NO_SWORD: &str = r#"{"do":"remove_component","kind":"Sword","object":6,"scene":1}"#;
 
 pub const ASSET_2: &str = r#"{"asset":2,"do":"put_asset","fields":{"power":7}}"#;
 
 pub const POWER_OF_2: &str = r#"{"asset":2,"do":"set_asset_field","field":"power","value":8}"#;
-
-pub const POWER_OF_3: &str = r#"{"asset":3,"do":"set_asset_field","field":"power","value":8}"#;
-
-pub const SPEED_OF_3: &str = r#"{"asset":3,"do":"set_asset_field","field":"speed","value":8}"#;
 
 pub const NO_ASSET_2: &str = r#"{"asset":2,"do":"remove_asset"}"#;
 

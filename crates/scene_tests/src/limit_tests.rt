@@ -1,4 +1,4 @@
-// How many objects and assets there may be, and how deep objects stand.
+// How many objects and assets there may be.
 ghost use Rattle.std.specs.Prelude.{◌≤◌};
 
 use crate::edit_texts::{ARMS, SCENE};
@@ -17,43 +17,6 @@ fn add(project: &mut Project, object: u32, parent: Option<u32>) -> Result<Vec<Ke
         parent,
         section: None,
     })
-}
-
-/// A project of so many objects, each below the one before.
-fn chain(alloc: Global, count: u32) -> Option<Project> {
-    let mut project = edited(alloc, ARMS, &[SCENE])?;
-    add(&mut project, 1, None).ok()?;
-    for object in 1..count {
-        add(&mut project, object + 1, Some(object)).ok()?;
-    }
-    Some(project)
-}
-
-/// The rule that an object below the last one of a chain breaks.
-fn one_deeper(alloc: Global, count: u32) -> Option<Option<EditFault>> {
-    let mut project = chain(alloc, count)?;
-    Some(add(&mut project, 1000, Some(count)).err())
-}
-
-/// The rule that an object with a child breaks, put below one of a chain of 63.
-fn pair_deeper(alloc: Global, parent: u32) -> Option<Option<EditFault>> {
-    let mut project = chain(alloc, 63)?;
-    add(&mut project, 1000, None).ok()?;
-    add(&mut project, 1001, Some(1000)).ok()?;
-    let edit = Edit::SetParent {
-        scene: 1,
-        object: 1000,
-        parent: Some(parent),
-    };
-    Some(project.edit(&edit).err())
-}
-
-#[test]
-fn the_sixty_fifth_level_is_too_deep(rt: HostRuntime) {
-    let deep = Some(Some(EditFault::DepthLimit));
-    assert!(rt; one_deeper(rt.alloc(), 64) == deep);
-    assert!(rt; pair_deeper(rt.alloc(), 63) == deep);
-    assert!(rt; pair_deeper(rt.alloc(), 62) == Some(None));
 }
 
 /// A project of 16,384 objects, each below the one of half its number.
