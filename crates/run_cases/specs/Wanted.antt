@@ -25,6 +25,10 @@ abbrev pub status_line : Option (List ℕ) → List ℕ
 status_line (Some line) = line
 status_line None = codes "0\n"
 
+-- the status that a case says by its own parts or else by those of its file, as a line
+abbrev pub wanted_status : List Part → List Part → List ℕ
+wanted_status own shared = status_line (body_or (body_in own (codes "status") []) (body_in shared (codes "status") []))
+
 -- a file that a part names is as the part says
 pub record IsKept (files : Files) (part : Part) : Type 0 where
   pub after : part.word ≡ codes "after" → get files part.name ≡ Some part.body

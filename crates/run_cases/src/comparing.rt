@@ -1,7 +1,7 @@
 // What came, beside what a case says.
 ghost use Rattle.std.specs.Prelude.{◌≡◌, ◌++◌, Some, None, IfOk, All, codes, [], ◌∷◌};
 ghost use Rattle.std.specs.Fmt.{decimal};
-ghost use Rattle.run_cases.specs.Wanted.{body_in, body_or, status_line, IsKept};
+ghost use Rattle.run_cases.specs.Wanted.{body_in, wanted_status, IsKept};
 
 use crate::cases::{Case, body_in};
 use crate::playing::Ending;
@@ -50,7 +50,7 @@ pub fn first_mismatch<'a>(
     case: &Case<'a>,
     ending: &'a Ending,
 ) -> Result<Option<Mismatch<'a>>, CaseFault>
-    ensures status { IfOk result (λ m. m ≡ None → decimal ending.now.status ++ codes "\n" ≡ status_line (body_or (body_in case.now.own.now (codes "status") []) (body_in case.now.shared.now (codes "status") []))) }
+    ensures status { IfOk result (λ m. m ≡ None → decimal ending.now.status ++ codes "\n" ≡ wanted_status case.now.own.now case.now.shared.now) }
     ensures output { IfOk result (λ m. m ≡ None → body_in case.now.own.now (codes "out") [] ≡ Some ending.now.sink.put) }
     ensures files { IfOk result (λ m. m ≡ None → All (IsKept ending.now.shelf.folder.files) case.now.own.now) }
 {
@@ -89,7 +89,7 @@ fn status_mismatch<'a>(
     case: &Case<'a>,
     came: u8,
 ) -> Result<Option<Mismatch<'a>>, CaseFault>
-    ensures { IfOk result (λ m. m ≡ None → decimal came ++ codes "\n" ≡ status_line (body_or (body_in case.now.own.now (codes "status") []) (body_in case.now.shared.now (codes "status") []))) }
+    ensures { IfOk result (λ m. m ≡ None → decimal came ++ codes "\n" ≡ wanted_status case.now.own.now case.now.shared.now) }
 {
     let wanted = case.body(b"status", b"").unwrap_or(b"0\n");
     let line = format!(in alloc; "{came}\n")?;
